@@ -1,0 +1,147 @@
+-- Laws of the shared vocabulary, in the forms that proofs of code ask for.
+use mathlib.Core.Path.{_≡_, refl, sym, _∙_, ap}
+use mathlib.Core.Bool.{Bool, true, false}
+use mathlib.Core.Logic.{_⊎_, inl, inr, ⊎-elim}
+use mathlib.Core.List.{List, map}
+use Prim.Native.Nat.{ℕ, zero, suc, _+_, _<_}
+use native.Mathlib.Numerals.{add-one}
+use native.Mathlib.Omega.{arith}
+use native.Mathlib.Decide.{decLt}
+use lib.ListN.{length, length-map}
+use borrow.Author.Needs.{needs}
+use borrow.Author.Tests.{lt-ltb, le-ltb, le-leb, lt-leb, eq-eqb, ne-eqb}
+use Rattle.basis.specs.Choice.{pick, both, either}
+use Rattle.basis.specs.Count.{every, some, upTo}
+
+-- what turns a test of the code into the test of a definition
+pub ruleset tests = (lt-ltb, le-ltb, le-leb, lt-leb, eq-eqb, ne-eqb)
+
+pub ruleset ways = (needs, lt-ltb, le-ltb, le-leb, lt-leb, eq-eqb, ne-eqb)
+
+pub false-true : {X : Type 0} → false ≡ true → X
+false-true e = let z : _≡_ {A = ℕ} 0 1 = cc in absurd (omega arith)
+
+-- an array of structs has as many elements as its image in memory
+pub length-mapped : (X Y : Type 0) (f : X → Y) (l : List X) (n : ℕ) → length (map f l) ≡ n → length l ≡ n
+length-mapped X Y f l n e = sym (length-map l f) ∙ e
+
+-- a choice whose test is known
+pub pick-true : {A : Type 0} (b : Bool) (x y z : A) → b ≡ true → z ≡ x → z ≡ pick b x y
+pick-true b x y z e f = rw e f
+
+pub pick-false : {A : Type 0} (b : Bool) (x y z : A) → b ≡ false → z ≡ y → z ≡ pick b x y
+pick-false b x y z e f = rw e f
+
+-- what holds of both choices holds of the choice
+pub pick-case : {A : Type 0} (P : A → Type 0) (b : Bool) (x y : A) → (b ≡ true → P x) → (b ≡ false → P y) → P (pick b x y)
+pick-case P true x y p q = p refl
+pick-case P false x y p q = q refl
+
+pub both-left : (a b : Bool) → both a b ≡ true → a ≡ true
+both-left true b e = refl
+both-left false b e = false-true e
+
+pub both-right : (a b : Bool) → both a b ≡ true → b ≡ true
+both-right true b e = e
+both-right false b e = false-true e
+
+pub both-of : (a b : Bool) → a ≡ true → b ≡ true → both a b ≡ true
+both-of true b x y = y
+both-of false b x y = false-true x
+
+pub either-is : (a b : Bool) → either a b ≡ true → (a ≡ true) ⊎ (b ≡ true)
+either-is true b e = inl refl
+either-is false b e = inr e
+
+pub either-left : (a b : Bool) → a ≡ true → either a b ≡ true
+either-left true b e = refl
+either-left false b e = false-true e
+
+pub either-right : (a b : Bool) → b ≡ true → either a b ≡ true
+either-right true b e = refl
+either-right false b e = e
+
+module _ (p : ℕ → Bool) where
+  -- a loop over the numbers below n that joins p's answers
+  pub every-none : (x : Bool) → x ≡ true → x ≡ every p 0
+  unfolding every
+  every-none x e = e
+
+  pub every-more : (n : ℕ) (x y : Bool) → x ≡ every p n → y ≡ both (p n) x → y ≡ every p (n + 1)
+  unfolding every
+  every-more n x y e f = rw add-one (rw (← e) f)
+
+  pub every-end : (n m : ℕ) (x : Bool) → x ≡ every p n → n ≡ m → x ≡ every p m
+  every-end n m x e f = rw (← f) e
+
+  pub some-none : (x : Bool) → x ≡ false → x ≡ some p 0
+  unfolding some
+  some-none x e = e
+
+  pub some-more : (n : ℕ) (x y : Bool) → x ≡ some p n → y ≡ either (p n) x → y ≡ some p (n + 1)
+  unfolding some
+  some-more n x y e f = rw add-one (rw (← e) f)
+
+  pub some-end : (n m : ℕ) (x : Bool) → x ≡ some p n → n ≡ m → x ≡ some p m
+  some-end n m x e f = rw (← f) e
+
+  -- the test is the fact about each number, or about one
+  pub every-is : (n : ℕ) → every p n ≡ true → (k : ℕ) → k < n → p k ≡ true
+  unfolding every
+  every-is zero e k h = absurd (omega arith)
+  every-is (suc n) e k h =
+      elim (decLt k n) [
+        | yes l ↦ every-is n (both-right (p n) (every p n) e) k l
+        | no l ↦ (let i : k ≡ n = omega arith in rw i (both-left (p n) (every p n) e))
+      ]
+
+  pub every-of : (n : ℕ) → ((k : ℕ) → k < n → p k ≡ true) → every p n ≡ true
+  unfolding every
+  every-of zero h = refl
+  every-of (suc n) h = both-of (p n) (every p n) (h n (omega arith)) (every-of n (λ k l. h k (omega arith)))
+
+  pub some-is : (n : ℕ) → some p n ≡ true → (k : ℕ) × (k < n) × (p k ≡ true)
+  unfolding some
+  some-is zero e = false-true e
+  some-is (suc n) e =
+      ⊎-elim
+      (λ h. (n, omega arith, h))
+      (λ h. (let r = some-is n h in (r .0, omega (arith, r .1), r .2)))
+      (either-is (p n) (some p n) e)
+
+  pub some-of : (n k : ℕ) → k < n → p k ≡ true → some p n ≡ true
+  unfolding some
+  some-of zero k h e = absurd (omega arith)
+  some-of (suc n) k h e =
+      elim (decLt k n) [
+        | yes l ↦ either-right (p n) (some p n) (some-of n k l e)
+        | no l ↦ (let i : n ≡ k = omega arith in either-left (p n) (some p n) (rw i e))
+      ]
+
+  -- a search that ends early
+  pub some-hit : (n k : ℕ) → k < n → p k ≡ true → true ≡ some p n
+  some-hit n k h e = sym (some-of n k h e)
+
+  pub every-miss : (n k : ℕ) → k < n → p k ≡ false → false ≡ every p n
+  every-miss n k h e = go (every p n) refl
+    where
+      go : (b : Bool) → every p n ≡ b → false ≡ b
+      go true f = false-true (sym e ∙ every-is n f k h)
+      go false f = refl
+
+-- a loop that changes one value
+module _ {A : Type 0} (f : ℕ → A → A) (a : A) where
+  pub upTo-none : (x : A) → x ≡ a → x ≡ upTo f a 0
+  unfolding upTo
+  upTo-none x e = e
+
+  pub upTo-more : (n : ℕ) (x y : A) → x ≡ upTo f a n → y ≡ f n x → y ≡ upTo f a (n + 1)
+  unfolding upTo
+  upTo-more n x y e g = rw add-one (rw (← e) g)
+
+  pub upTo-end : (n m : ℕ) (x : A) → x ≡ upTo f a n → n ≡ m → x ≡ upTo f a m
+  upTo-end n m x e g = rw (← g) e
+
+pub ruleset picks = (ways, pick-true, pick-false)
+
+pub ruleset turns = (ways, every-none, every-more, some-none, some-more, upTo-none, upTo-more)

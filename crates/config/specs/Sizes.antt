@@ -1,0 +1,86 @@
+-- The sizes: one rule for each sentence of S1 to S7, and a legal configuration.
+use Prim.Native.Nat.{ℕ}
+use lib.Dec.{eqb, leb, ltb}
+use lib.ListN.{getD}
+use mathlib.Core.Bool.{Bool}
+use Rattle.basis.specs.Choice.{both, either, pick}
+use Rattle.basis.specs.Count.{every, some}
+use Rattle.config.specs.declared.Config.{Config}
+
+-- what stands at place k
+abbrev pub entryAt : Config → ℕ → ℕ
+entryAt c k = getD (c .entries) k 0
+
+abbrev pub handlerAt : Config → ℕ → ℕ
+handlerAt c k = getD (c .handlers) k 0
+
+abbrev pub ownerAt : Config → ℕ → ℕ
+ownerAt c k = getD (c .owners) k 0
+
+abbrev pub durationAt : Config → ℕ → ℕ
+durationAt c k = getD (c .durations) k 0
+
+-- at least a and at most b
+abbrev pub within : ℕ → ℕ → ℕ → Bool
+within a b n = both (leb a n) (leb n b)
+
+abbrev pub isSpare : ℕ → Bool
+isSpare owner = eqb owner 255
+
+-- S1: 1 to 8 VMs
+abbrev pub vmsFit : Config → Bool
+vmsFit c = within 1 8 (c .count)
+
+-- S2: a queue of 0 to 16 entries
+abbrev pub roomFits : Config → Bool
+roomFits c = leb (c .room) 16
+
+-- S3: 1 to 64 slots
+abbrev pub slotsFit : Config → Bool
+slotsFit c = within 1 64 (c .slots)
+
+-- S4: a named slot lasts 1 to 1,000 ticks, a spare one exactly 1
+abbrev pub lasts : ℕ → ℕ → Bool
+lasts owner ticks = pick (isSpare owner) (eqb ticks 1) (within 1 1000 ticks)
+
+unfoldable pub durationsFit : Config → Bool
+durationsFit c = every (λ k. lasts (ownerAt c k) (durationAt c k)) (c .slots)
+
+-- S5: a slot is spare, or names a VM of the configuration
+abbrev pub names : ℕ → ℕ → Bool
+names count owner = either (isSpare owner) (ltb owner count)
+
+unfoldable pub ownersFit : Config → Bool
+ownersFit c = every (λ k. names (c .count) (ownerAt c k)) (c .slots)
+
+-- S4 and S5 of one slot
+abbrev pub slotFits : ℕ → ℕ → ℕ → Bool
+slotFits count owner ticks = both (lasts owner ticks) (names count owner)
+
+-- S6: each VM has a slot
+unfoldable pub hasSlot : Config → ℕ → Bool
+hasSlot c v = some (λ k. eqb (ownerAt c k) v) (c .slots)
+
+unfoldable pub vmsServed : Config → Bool
+vmsServed c = every (hasSlot c) (c .count)
+
+-- S7: places past the counts hold zero
+abbrev pub emptyPast : ℕ → ℕ → ℕ → ℕ → Bool
+emptyPast n k x y = either (ltb k n) (both (eqb x 0) (eqb y 0))
+
+unfoldable pub vmsRest : Config → Bool
+vmsRest c = every (λ k. emptyPast (c .count) k (entryAt c k) (handlerAt c k)) 8
+
+unfoldable pub slotsRest : Config → Bool
+slotsRest c = every (λ k. emptyPast (c .slots) k (ownerAt c k) (durationAt c k)) 64
+
+-- S1 to S7
+unfoldable pub legal : Config → Bool
+legal c =
+    both (vmsFit c)
+    (both (roomFits c)
+    (both (slotsFit c)
+    (both (durationsFit c)
+    (both (ownersFit c)
+    (both (vmsServed c)
+    (both (vmsRest c) (slotsRest c)))))))

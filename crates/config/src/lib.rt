@@ -1,0 +1,67 @@
+// What a configuration is: the limits, the struct, and the test that it keeps the rules of the sizes (S1 to S7).
+mod places;
+
+ghost use lib.Dec.{leb};
+ghost use mathlib.Core.Path.{_≡_};
+ghost use Rattle.basis.specs.Choice.{both};
+ghost use Rattle.config.specs.Sizes.{legal, within};
+
+// A configuration. It has 8 places for VMs and 64 for slots.
+#[repr(C)]
+pub struct Config {
+    pub count: u8, // how many VMs
+    pub room: u8, // the queue's size
+    pub slots: u8, // how many slots
+    pub entries: [u32; 8], // each VM's entry address
+    pub handlers: [u32; 8], // each VM's pseudo-interrupt handler
+    pub owners: [u8; 64], // the VM that each slot names, or SPARE
+    pub durations: [u16; 64], // the ticks that each slot lasts
+}
+
+impl Config {
+    pub const VMS: u8 = 8;
+
+    pub const ROOM: u8 = 16;
+
+    pub const SLOTS: u8 = 64;
+
+    pub const TICKS: u16 = 1000;
+
+    pub const SPARE: u8 = 255;
+
+    // Whether the configuration keeps S1 to S7.
+    pub fn legal(self) -> bool
+        ensures { λ r. ⌜ r ≡ legal self ⌝ }
+    {
+        let count = self.count;
+        let slots = self.slots;
+        if counts_fit(count, self.room, slots) {
+            let entries = self.entries;
+            let handlers = self.handlers;
+            let owners = self.owners;
+            let durations = self.durations;
+            places::all_fit(count, slots, &entries, &handlers, &owners, &durations)
+        } else {
+            false
+        }
+    }
+}
+
+// S1, S2 and S3.
+fn counts_fit(count: u8, room: u8, slots: u8) -> bool
+    ensures { λ r. ⌜ r ≡ both (within 1 8 count) (both (leb room 16) (within 1 64 slots)) ⌝ }
+{
+    if count < 1 {
+        return false;
+    }
+    if Config::VMS < count {
+        return false;
+    }
+    if Config::ROOM < room {
+        return false;
+    }
+    if slots < 1 {
+        return false;
+    }
+    slots <= Config::SLOTS
+}

@@ -1,0 +1,43 @@
+//! The events of a log and the answer that each of them gets.
+
+/// One event, with what its record says.
+#[derive(Clone, Copy, Debug, PartialEq, Eq)]
+pub enum Event {
+    Start,
+    Tick { address: u32 },
+    Stop { vm: u8 },
+    Shutdown { vm: u8 },
+    Restart { vm: u8 },
+    Extra { vm: u8 },
+    Call { service: u8, argument: u32, next: u32 },
+    Write { offset: u8, value: u32 },
+    Fault { code: u8, data: u32 },
+}
+
+/// What the master is told: 0 nothing, 1 stopped, 2 shut down, 3 in error.
+#[derive(Clone, Copy, Debug, Default, PartialEq, Eq)]
+pub struct Notice {
+    pub number: u8,
+    pub vm: u8,
+    pub code: u8,
+    pub data: u32,
+}
+
+/// What an accepted event brought besides the new state.
+#[derive(Clone, Copy, Debug, Default, PartialEq, Eq)]
+pub struct Outcome {
+    pub delivered: Option<u8>,
+    pub notice: Notice,
+    pub result: u8,
+}
+
+/// The whole answer of one event. The address of no VM is 0.
+#[derive(Clone, Copy, Debug, Default, PartialEq, Eq)]
+pub struct Answer {
+    pub refusal: u8,
+    pub running: Option<u8>,
+    pub address: u32,
+    pub delivered: Option<u8>,
+    pub notice: Notice,
+    pub result: u8,
+}

@@ -1,0 +1,57 @@
+//! The switches that make a deliberately wrong twin, for showing that the comparison can fail.
+
+#[derive(Clone, Copy, Debug, PartialEq, Eq)]
+pub enum Flaw {
+    /// The right twin.
+    None,
+    GuestClock,
+    SpareChargedToSlice,
+    StopMovesTable,
+    ClearsAllPending,
+    LowestNumberFirst,
+    StoppedStaysQueued,
+    ShutdownAtOnce,
+    RefusedTickAges,
+    RestartKeepsQueue,
+    WriterSwapsBytes,
+    Fault28OffByOne,
+    InjectMasksArgument,
+    OnlyReadyAge,
+    ReturnDoesNotDeliver,
+    InjectDelivers,
+    QueueTakesOneMore,
+    NewestEntryFirst,
+    EndingCallKeepsAddress,
+    GenerateForEveryone,
+    RestartStopsRunning,
+    BodyBeforeKind,
+    SlotNameBeforeCount,
+}
+
+impl Flaw {
+    /// Every wrong twin, with what it does wrong.
+    pub const WRONG: [(Flaw, &'static str); 22] = [
+        (Flaw::GuestClock, "raises the guest's own copy of ticksWhileRunning"),
+        (Flaw::SpareChargedToSlice, "charges a spare tick to the VM's next slice"),
+        (Flaw::StopMovesTable, "moves the table on when the running VM is stopped"),
+        (Flaw::ClearsAllPending, "clears the whole pending field at a delivery"),
+        (Flaw::LowestNumberFirst, "delivers the lowest number first"),
+        (Flaw::StoppedStaysQueued, "leaves the entries of a stopped VM in the queue"),
+        (Flaw::ShutdownAtOnce, "delivers number 11 at the master's Shutdown"),
+        (Flaw::RefusedTickAges, "ages the VMs at a refused tick"),
+        (Flaw::RestartKeepsQueue, "leaves the entries of a restarted VM in the queue"),
+        (Flaw::WriterSwapsBytes, "writes the numbers of an image high byte first"),
+        (Flaw::Fault28OffByOne, "answers fault 28 with the next offset"),
+        (Flaw::InjectMasksArgument, "cuts the argument of service 2 to five bits"),
+        (Flaw::OnlyReadyAge, "ages only the VMs that are ready"),
+        (Flaw::ReturnDoesNotDeliver, "does not deliver at service 1"),
+        (Flaw::InjectDelivers, "delivers at service 2"),
+        (Flaw::QueueTakesOneMore, "takes one entry more than the queue size"),
+        (Flaw::NewestEntryFirst, "takes the newest queue entry in a spare tick"),
+        (Flaw::EndingCallKeepsAddress, "stores no next address at a call that ends its VM"),
+        (Flaw::GenerateForEveryone, "joins generate-on-tick into pending for VMs that do not run"),
+        (Flaw::RestartStopsRunning, "takes the core from a running VM at its Restart"),
+        (Flaw::BodyBeforeKind, "reads the body of an image record before it judges the kind"),
+        (Flaw::SlotNameBeforeCount, "tests the name of a 65th slot before the count"),
+    ];
+}

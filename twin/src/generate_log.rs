@@ -1,0 +1,243 @@
+//! Event logs for the cases. The maker runs the core beside it, so that most events are accepted.
+
+use crate::config::Config;
+use crate::core::Core;
+use crate::event::Event;
+use crate::flaw::Flaw;
+use crate::generate_values::{address, any_event, argument, mask, write_offset};
+use crate::log_codec::write_record;
+use crate::random::Random;
+use crate::state::Standing;
+
+/// What a log is mostly about: how likely each kind of step is.
+#[derive(Clone, Copy, Debug)]
+pub struct Mood {
+    tick: usize,
+    call: usize,
+    write: usize,
+    fault: usize,
+    master: usize,
+    extra: usize,
+    odd: usize,
+    burst: usize,
+}
+
+const MOODS: [Mood; 5] = [
+    Mood { tick: 50, call: 20, write: 12, fault: 1, master: 5, extra: 5, odd: 3, burst: 4 },
+    Mood { tick: 25, call: 35, write: 30, fault: 0, master: 3, extra: 2, odd: 1, burst: 4 },
+    Mood { tick: 40, call: 10, write: 3, fault: 2, master: 10, extra: 30, odd: 3, burst: 2 },
+    Mood { tick: 35, call: 10, write: 5, fault: 5, master: 35, extra: 8, odd: 5, burst: 2 },
+    Mood { tick: 15, call: 10, write: 10, fault: 3, master: 10, extra: 5, odd: 40, burst: 7 },
+];
+
+/// Nearly only ticks, for long runs.
+const TICKING: Mood = Mood { tick: 940, call: 20, write: 15, fault: 1, master: 6, extra: 15, odd: 2, burst: 1 };
+
+/// A log under construction and the state after it.
+pub struct LogMaker<'a> {
+    random: &'a mut Random,
+    mood: Mood,
+    core: Core,
+    log: Vec<u8>,
+}
+
+impl<'a> LogMaker<'a> {
+    pub fn new(random: &'a mut Random, config: &Config) -> LogMaker<'a> {
+        let mood = MOODS[random.below(MOODS.len())];
+        LogMaker { random, mood, core: Core::fresh(config.clone(), Flaw::None), log: Vec::new() }
+    }
+
+    /// A log of so many steps; a burst of several events counts as one.
+    pub fn events(mut self, count: usize) -> Vec<u8> {
+        for _ in 0..count {
+            self.step();
+        }
+        self.log
+    }
+
+    /// A log of exactly so many bytes, most of them ticks.
+    pub fn bytes(mut self, length: usize) -> Vec<u8> {
+        self.mood = TICKING;
+        while self.log.len() + 2_000 < length {
+            self.step();
+        }
+        while self.log.len() + 5 <= length {
+            self.tick();
+        }
+        while self.log.len() + 2 <= length {
+            self.push(Event::Extra { vm: 0 });
+        }
+        while self.log.len() < length {
+            self.push(Event::Start);
+        }
+        self.log
+    }
+
+    fn push(&mut self, event: Event) {
+        self.core.apply(event);
+        write_record(event, &mut self.log);
+    }
+
+    fn step(&mut self) {
+        if !self.core.state.started {
+            let event = if self.random.percent(85) { Event::Start } else { any_event(self.random) };
+            return self.push(event);
+        }
+        if self.nobody_ready() && self.random.percent(40) {
+            return self.restart_somebody();
+        }
+        let mood = self.mood;
+        let weights =
+            [mood.tick, mood.call, mood.write, mood.fault, mood.master, mood.extra, mood.odd, mood.burst];
+        let running = self.core.state.running.is_some();
+        match self.random.weighted(&weights) {
+            1 if running => self.call(),
+            2 if running => self.write(),
+            3 if running => self.fault(),
+            4 => self.master(),
+            5 => self.extra(),
+            6 => {
+                let event = any_event(self.random);
+                self.push(event);
+            }
+            7 => self.burst(),
+            _ => self.tick(),
+        }
+    }
+
+    fn nobody_ready(&self) -> bool {
+        self.core.state.vms.iter().all(|vm| vm.standing != Standing::Ready)
+    }
+
+    fn tick(&mut self) {
+        let address = address(self.random);
+        self.push(Event::Tick { address });
+    }
+
+    fn call(&mut self) {
+        let service = match self.random.weighted(&[24, 24, 24, 3, 22, 3]) {
+            5 => self.random.byte(),
+            service => service as u8,
+        };
+        let argument = argument(self.random, service);
+        let next = address(self.random);
+        self.push(Event::Call { service, argument, next });
+    }
+
+    fn write(&mut self) {
+        let offset = write_offset(self.random);
+        let value = mask(self.random);
+        self.push(Event::Write { offset, value });
+    }
+
+    fn fault(&mut self) {
+        let code = self.random.pick(&[3, 4, 5]);
+        let data = address(self.random);
+        self.push(Event::Fault { code, data });
+    }
+
+    fn vm(&mut self) -> u8 {
+        self.random.below(usize::from(self.core.config.vm_count)) as u8
+    }
+
+    /// Stop or Shutdown for a ready VM, Restart for one that is not, and sometimes for one that is.
+    fn master(&mut self) {
+        let vm = self.vm();
+        let ready = self.core.state.vms[usize::from(vm)].standing == Standing::Ready;
+        let event = match self.random.below(10) {
+            0..=3 if ready => Event::Shutdown { vm },
+            4..=6 if ready => Event::Stop { vm },
+            _ => Event::Restart { vm },
+        };
+        self.push(event);
+    }
+
+    fn extra(&mut self) {
+        let vm = self.vm();
+        let ready = self.core.state.vms[usize::from(vm)].standing == Standing::Ready;
+        if ready && (!self.core.queue_full() || self.random.percent(10)) {
+            self.push(Event::Extra { vm });
+        } else {
+            self.tick();
+        }
+    }
+
+    fn restart_somebody(&mut self) {
+        let vm = self.vm();
+        self.push(Event::Restart { vm });
+    }
+
+    /// A short row of events that belong together.
+    fn burst(&mut self) {
+        match self.random.below(7) {
+            0 => self.fill_the_queue(),
+            1 => self.raise_and_sync(),
+            2 => self.generate_and_return(),
+            3 => self.stop_everybody(),
+            4 => self.whole_cycle(),
+            5 => self.bend_the_clocks(),
+            _ => self.restart_the_rest(),
+        }
+    }
+
+    fn fill_the_queue(&mut self) {
+        let size = self.core.config.queue_size;
+        for _ in 0..=size.saturating_sub(self.core.state.queue.count) {
+            let vm = self.vm();
+            self.push(Event::Extra { vm });
+        }
+        let next = address(self.random);
+        self.push(Event::Call { service: 4, argument: 0, next });
+    }
+
+    fn raise_and_sync(&mut self) {
+        let number = self.random.below(32) as u32;
+        let next = address(self.random);
+        self.push(Event::Write { offset: 8, value: 1 << number | mask(self.random) });
+        self.push(Event::Call { service: 2, argument: number, next });
+        self.push(Event::Call { service: 0, argument: 0, next: next.wrapping_add(4) });
+        self.push(Event::Call { service: 1, argument: 0, next: next.wrapping_add(8) });
+    }
+
+    fn generate_and_return(&mut self) {
+        let (enabled, generated) = (mask(self.random), mask(self.random));
+        self.push(Event::Write { offset: 8, value: enabled });
+        self.push(Event::Write { offset: 32, value: generated });
+        for _ in 0..self.random.between(1, 4) {
+            self.tick();
+            if self.core.state.running.is_some() {
+                self.push(Event::Call { service: 1, argument: 0, next: 0 });
+            }
+        }
+    }
+
+    fn stop_everybody(&mut self) {
+        for vm in 0..self.core.config.vm_count {
+            self.push(Event::Stop { vm });
+        }
+        self.tick();
+    }
+
+    fn whole_cycle(&mut self) {
+        let ticks: usize = self.core.config.table().iter().map(|slot| usize::from(slot.ticks)).sum();
+        for _ in 0..=ticks.min(60) {
+            self.tick();
+        }
+    }
+
+    fn bend_the_clocks(&mut self) {
+        for offset in [0, 4, 36] {
+            let value = self.random.pick(&[0, 1, 0x7fff_ffff, u32::MAX]);
+            self.push(Event::Write { offset, value });
+        }
+        self.tick();
+    }
+
+    fn restart_the_rest(&mut self) {
+        for vm in 0..self.core.config.vm_count {
+            if self.core.state.vms[usize::from(vm)].standing != Standing::Ready {
+                self.push(Event::Restart { vm });
+            }
+        }
+    }
+}
