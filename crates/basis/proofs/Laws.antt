@@ -1,16 +1,16 @@
 -- Laws of the shared vocabulary, in the forms that proofs of code ask for.
-use mathlib.Core.Path.{_≡_, refl, sym, _∙_, ap}
-use mathlib.Core.Bool.{Bool, true, false}
-use mathlib.Core.Logic.{_⊎_, inl, inr, ⊎-elim}
+use Prim.Native.Nat.{suc, zero, ℕ, _+_, _<_, _≤_}
+use borrow.Author.Needs.{needs}
+use borrow.Author.Tests.{eq-eqb, le-leb, le-ltb, lt-leb, lt-ltb, ne-eqb}
+use lib.ListN.{List·getD-eq-default, getD, length, length-map}
+use mathlib.Core.Bool.{Bool, false, true}
 use mathlib.Core.List.{List, map}
-use Prim.Native.Nat.{ℕ, zero, suc, _+_, _<_}
+use mathlib.Core.Logic.{inl, inr, _⊎_, ⊎-elim}
+use mathlib.Core.Path.{refl, sym, _∙_, _≡_}
+use native.Mathlib.Decide.{decLt}
 use native.Mathlib.Numerals.{add-one}
 use native.Mathlib.Omega.{arith}
-use native.Mathlib.Decide.{decLt}
-use lib.ListN.{length, length-map}
-use borrow.Author.Needs.{needs}
-use borrow.Author.Tests.{lt-ltb, le-ltb, le-leb, lt-leb, eq-eqb, ne-eqb}
-use Rattle.basis.specs.Choice.{pick, both, either}
+use Rattle.basis.specs.Choice.{both, either, pick}
 use Rattle.basis.specs.Count.{every, some, upTo}
 
 -- what turns a test of the code into the test of a definition
@@ -24,6 +24,13 @@ false-true e = let z : _≡_ {A = ℕ} 0 1 = cc in absurd (omega arith)
 -- an array of structs has as many elements as its image in memory
 pub length-mapped : (X Y : Type 0) (f : X → Y) (l : List X) (n : ℕ) → length (map f l) ≡ n → length l ≡ n
 length-mapped X Y f l n e = sym (length-map l f) ∙ e
+
+-- a read past the end gives the default
+pub getD-past : (l : List ℕ) (k : ℕ) → length l ≤ k → 0 ≡ getD l k 0
+getD-past l k h = sym (List·getD-eq-default l 0 h)
+
+pub array-past : (l : List ℕ) (n k : ℕ) → length l ≡ n → n ≤ k → 0 ≡ getD l k 0
+array-past l n k e h = getD-past l k (omega arith)
 
 -- a choice whose test is known
 pub pick-true : {A : Type 0} (b : Bool) (x y z : A) → b ≡ true → z ≡ x → z ≡ pick b x y

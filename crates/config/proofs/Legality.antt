@@ -1,14 +1,17 @@
 -- The test `legal` says what the record `Legal` says: S1 to S7 as facts about every place.
-use Prim.Native.Nat.{suc, zero, ℕ, _≤_}
-use borrow.Author.Tests.{leb-true}
-use lib.Dec.{leb}
+use Prim.Native.Nat.{suc, zero, ℕ, _<_, _≤_}
+use borrow.Author.Tests.{eq-eqb, eqb-false, eqb-true, le-leb, le-ltb, leb-true, lt-ltb, ltb-true, ne-eqb}
+use lib.Dec.{eqb, leb, ltb}
 use mathlib.Core.Bool.{Bool, false, true}
+use mathlib.Core.Logic.{inl, inr, _⊎_, ⊎-elim}
 use mathlib.Core.Path.{refl, sym, _∙_, _≡_}
-use Rattle.basis.proofs.Laws.{both-right}
+use native.Mathlib.Decide.{decLt}
+use native.Mathlib.Omega.{arith}
+use Rattle.basis.proofs.Laws.{both-left, both-of, both-right, either-is, either-left, either-right, every-is, every-of, pick-case, some-is, some-of}
 use Rattle.basis.specs.Choice.{both}
 use Rattle.basis.specs.Count.{every}
 use Rattle.config.specs.Places.{placesFit}
-use Rattle.config.specs.Sizes.{durationAt, durationsFit, hasSlot, lasts, legal, names, ownerAt, ownersFit, roomFits, slotsFit, slotsRest, vmsFit, vmsRest, vmsServed, within}
+use Rattle.config.specs.Sizes.{Legal, durationAt, durationsFit, emptyPast, entryAt, handlerAt, hasSlot, lasts, legal, names, ownerAt, ownersFit, roomFits, slotsFit, slotsRest, vmsFit, vmsRest, vmsServed, within}
 use Rattle.config.specs.declared.Config.{Config}
 
 -- two rules about each slot are one rule about each slot
@@ -52,3 +55,102 @@ legal-never c a r e t f = f ∙ (rw t at (legal-law c a _ e refl))
 pub slots-64 : (count room slots : ℕ) (a : Bool) → a ≡ both (within 1 8 count) (both (leb room 16) (within 1 64 slots)) → a ≡ true → slots ≤ 64
 slots-64 count room slots a e t =
     leb-true slots 64 (both-right (leb 1 slots) _ (both-right (leb room 16) _ (both-right (within 1 8 count) _ (sym e ∙ t))))
+
+-- at least a and at most b
+pub within-is : (a b n : ℕ) → within a b n ≡ true → (a ≤ n) × (n ≤ b)
+within-is a b n e = (leb-true a n (both-left (leb a n) (leb n b) e), leb-true n b (both-right (leb a n) (leb n b) e))
+
+pub within-of : (a b n : ℕ) → a ≤ n → n ≤ b → within a b n ≡ true
+within-of a b n h l = both-of (leb a n) (leb n b) (le-leb a n h) (le-leb n b l)
+
+lasts-spare : (o t : ℕ) → lasts o t ≡ true → o ≡ 255 → t ≡ 1
+lasts-spare o t e s = eqb-true t 1 (rw (eq-eqb o 255 s) at e)
+
+lasts-named : (o t : ℕ) → lasts o t ≡ true → (o ≡ 255 → ⊥) → (1 ≤ t) × (t ≤ 1000)
+lasts-named o t e s = within-is 1 1000 t (rw (ne-eqb o 255 s) at e)
+
+lasts-of : (o t : ℕ) → (o ≡ 255 → t ≡ 1) → ((o ≡ 255 → ⊥) → (1 ≤ t) × (t ≤ 1000)) → lasts o t ≡ true
+lasts-of o t s n =
+    pick-case (λ (b : Bool). b ≡ true) (eqb o 255) (eqb t 1) (within 1 1000 t)
+    (λ e. eq-eqb t 1 (s (eqb-true o 255 e)))
+    (λ e. (let h = n (eqb-false o 255 e) in within-of 1 1000 t (h .0) (h .1)))
+
+names-is : (n o : ℕ) → names n o ≡ true → (o ≡ 255) ⊎ (o < n)
+names-is n o e = ⊎-elim (λ h. inl (eqb-true o 255 h)) (λ h. inr (ltb-true o n h)) (either-is (eqb o 255) (ltb o n) e)
+
+names-of : (n o : ℕ) → (o ≡ 255) ⊎ (o < n) → names n o ≡ true
+names-of n o = ⊎-elim (λ h. either-left (eqb o 255) (ltb o n) (eq-eqb o 255 h)) (λ h. either-right (eqb o 255) (ltb o n) (lt-ltb o n h))
+
+empty-is : (n k x y : ℕ) → emptyPast n k x y ≡ true → n ≤ k → (x ≡ 0) × (y ≡ 0)
+empty-is n k x y e h =
+    let f = rw (le-ltb k n h) at e in
+    (eqb-true x 0 (both-left (eqb x 0) (eqb y 0) f), eqb-true y 0 (both-right (eqb x 0) (eqb y 0) f))
+
+empty-of : (n k x y : ℕ) → (n ≤ k → (x ≡ 0) × (y ≡ 0)) → emptyPast n k x y ≡ true
+empty-of n k x y h =
+    elim (decLt k n)
+    [ yes l ↦ either-left (ltb k n) _ (lt-ltb k n l)
+    | no l ↦ (let e = h (omega arith) in either-right (ltb k n) _ (both-of (eqb x 0) (eqb y 0) (eq-eqb x 0 (e .0)) (eq-eqb y 0 (e .1)))) ]
+
+-- the rules that the test joins
+record Rules (c : Config) : Type 0 where
+  vms : vmsFit c ≡ true
+  queue : roomFits c ≡ true
+  table : slotsFit c ≡ true
+  durations : durationsFit c ≡ true
+  owners : ownersFit c ≡ true
+  served : vmsServed c ≡ true
+  vms-empty : vmsRest c ≡ true
+  slots-empty : slotsRest c ≡ true
+
+rules-is : (c : Config) → legal c ≡ true → Rules c
+unfolding legal
+rules-is c e =
+    let e1 = both-right (vmsFit c) _ e in
+    let e2 = both-right (roomFits c) _ e1 in
+    let e3 = both-right (slotsFit c) _ e2 in
+    let e4 = both-right (durationsFit c) _ e3 in
+    let e5 = both-right (ownersFit c) _ e4 in
+    let e6 = both-right (vmsServed c) _ e5 in
+    record
+      { vms = both-left (vmsFit c) _ e
+      ; queue = both-left (roomFits c) _ e1
+      ; table = both-left (slotsFit c) _ e2
+      ; durations = both-left (durationsFit c) _ e3
+      ; owners = both-left (ownersFit c) _ e4
+      ; served = both-left (vmsServed c) _ e5
+      ; vms-empty = both-left (vmsRest c) _ e6
+      ; slots-empty = both-right (vmsRest c) _ e6
+      }
+
+-- a configuration that passes the test keeps the rules
+pub legal-is : (c : Config) → legal c ≡ true → Legal c
+unfolding durationsFit ownersFit vmsServed hasSlot vmsRest slotsRest
+legal-is c e =
+    let r = rules-is c e in
+    let long = every-is _ (c .slots) (r .durations) in
+    let own = every-is _ (c .slots) (r .owners) in
+    record
+      { vms = within-is 1 8 (c .count) (r .vms)
+      ; queue = leb-true (c .room) 16 (r .queue)
+      ; table = within-is 1 64 (c .slots) (r .table)
+      ; spares = λ k h. lasts-spare (ownerAt c k) (durationAt c k) (long k h)
+      ; named = λ k h. lasts-named (ownerAt c k) (durationAt c k) (long k h)
+      ; owned = λ k h. names-is (c .count) (ownerAt c k) (own k h)
+      ; served = λ v h. (let s = some-is _ (c .slots) (every-is _ (c .count) (r .served) v h) in (s .0, s .1, eqb-true (ownerAt c (s .0)) v (s .2)))
+      ; vms-empty = λ k h l. empty-is (c .count) k (entryAt c k) (handlerAt c k) (every-is _ 8 (r .vms-empty) k l) h
+      ; slots-empty = λ k h l. empty-is (c .slots) k (ownerAt c k) (durationAt c k) (every-is _ 64 (r .slots-empty) k l) h
+      }
+
+-- and a configuration that keeps the rules passes it
+pub legal-of : (c : Config) → Legal c → legal c ≡ true
+unfolding legal durationsFit ownersFit vmsServed hasSlot vmsRest slotsRest
+legal-of c l =
+    both-of (vmsFit c) _ (within-of 1 8 (c .count) (l .vms .0) (l .vms .1))
+    (both-of (roomFits c) _ (le-leb (c .room) 16 (l .queue))
+    (both-of (slotsFit c) _ (within-of 1 64 (c .slots) (l .table .0) (l .table .1))
+    (both-of (durationsFit c) _ (every-of _ (c .slots) (λ k h. lasts-of (ownerAt c k) (durationAt c k) (l .spares k h) (l .named k h)))
+    (both-of (ownersFit c) _ (every-of _ (c .slots) (λ k h. names-of (c .count) (ownerAt c k) (l .owned k h)))
+    (both-of (vmsServed c) _ (every-of _ (c .count) (λ v h. (let s = l .served v h in some-of _ (c .slots) (s .0) (s .1) (eq-eqb (ownerAt c (s .0)) v (s .2)))))
+    (both-of (vmsRest c) _ (every-of _ 8 (λ k h. empty-of (c .count) k (entryAt c k) (handlerAt c k) (λ m. l .vms-empty k m h)))
+    (every-of _ 64 (λ k h. empty-of (c .slots) k (ownerAt c k) (durationAt c k) (λ m. l .slots-empty k m h)))))))))

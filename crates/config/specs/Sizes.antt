@@ -1,8 +1,10 @@
 -- The sizes: one rule for each sentence of S1 to S7, and a legal configuration.
-use Prim.Native.Nat.{ℕ}
+use Prim.Native.Nat.{ℕ, _<_, _≤_}
 use lib.Dec.{eqb, leb, ltb}
 use lib.ListN.{getD}
 use mathlib.Core.Bool.{Bool}
+use mathlib.Core.Logic.{_⊎_}
+use mathlib.Core.Path.{_≡_}
 use Rattle.basis.specs.Choice.{both, either, pick}
 use Rattle.basis.specs.Count.{every, some}
 use Rattle.config.specs.declared.Config.{Config}
@@ -84,3 +86,15 @@ legal c =
     (both (ownersFit c)
     (both (vmsServed c)
     (both (vmsRest c) (slotsRest c)))))))
+
+-- S1 to S7 as facts
+pub record Legal (c : Config) : Type 0 where
+  pub vms : (1 ≤ c .count) × (c .count ≤ 8)
+  pub queue : c .room ≤ 16
+  pub table : (1 ≤ c .slots) × (c .slots ≤ 64)
+  pub spares : (k : ℕ) → k < c .slots → ownerAt c k ≡ 255 → durationAt c k ≡ 1
+  pub named : (k : ℕ) → k < c .slots → (ownerAt c k ≡ 255 → ⊥) → (1 ≤ durationAt c k) × (durationAt c k ≤ 1000)
+  pub owned : (k : ℕ) → k < c .slots → (ownerAt c k ≡ 255) ⊎ (ownerAt c k < c .count)
+  pub served : (v : ℕ) → v < c .count → (k : ℕ) × (k < c .slots) × (ownerAt c k ≡ v)
+  pub vms-empty : (k : ℕ) → c .count ≤ k → k < 8 → (entryAt c k ≡ 0) × (handlerAt c k ≡ 0)
+  pub slots-empty : (k : ℕ) → c .slots ≤ k → k < 64 → (ownerAt c k ≡ 0) × (durationAt c k ≡ 0)

@@ -4,7 +4,7 @@ mod places;
 ghost use lib.Dec.{leb};
 ghost use mathlib.Core.Path.{_≡_};
 ghost use Rattle.basis.specs.Choice.{both};
-ghost use Rattle.config.specs.Sizes.{legal, within};
+ghost use Rattle.config.specs.Sizes.{legal, vmsServed, within};
 
 // A configuration. It has 8 places for VMs and 64 for slots.
 #[repr(C)]
@@ -41,6 +41,19 @@ impl Config {
             let owners = self.owners;
             let durations = self.durations;
             places::all_fit(count, slots, &entries, &handlers, &owners, &durations)
+        } else {
+            false
+        }
+    }
+
+    // S6: whether each VM has a slot; no table is longer than 64 slots.
+    pub fn serves_all(self) -> bool
+        ensures { λ r. ⌜ r ≡ both (leb (self .slots) 64) (vmsServed self) ⌝ }
+    {
+        let slots = self.slots;
+        let owners = self.owners;
+        if slots <= Config::SLOTS {
+            places::vms_served(self.count, slots, &owners)
         } else {
             false
         }

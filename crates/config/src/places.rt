@@ -1,5 +1,6 @@
 // The rules about the places of a configuration: S4 to S7. A loop leaves early only where it searches, so that the others compile to vector code.
 use crate::Config;
+
 ghost use Prim.Native.Nat.{_≤_};
 ghost use lib.Dec.{eqb};
 ghost use lib.ListN.{getD};
@@ -71,7 +72,7 @@ fn and_slot_fits(count: u8, owner: u8, ticks: u16, ok: bool) -> bool
 }
 
 // S6: whether each VM has a slot.
-fn vms_served(count: u8, slots: u8, owners: &[u8; 64]) -> bool
+pub fn vms_served(count: u8, slots: u8, owners: &[u8; 64]) -> bool
     requires { ⌜ slots ≤ 64 ⌝ }
     ensures { λ r. ⌜ r ≡ every (λ v. some (λ k. eqb (getD (now (owners .entry)) k 0) v) slots) count ⌝ }
 {
