@@ -1,0 +1,185 @@
+-- The machine's operations on bits, in the terms of the definitions.
+use Prim.Native.Nat.{suc, zero, ℕ, _%_, _*_, _+_, _-_, _/_, _<_, _^_, _≤_}
+use borrow.Author.Tests.{eqb-false, eqb-true}
+use lib.Bits.{and-high, and-le-l, and-mod, and-shr, bitAnd, bitOr, or-add-and}
+use lib.Count.{leading-top, leadingZeros}
+use lib.Dec.{eqb}
+use lib.Pow.{pow-add, pow-mono, shl-exact}
+use mathlib.Core.Bool.{Bool, false, true}
+use mathlib.Core.Path.{ap, refl, sym, _∙_, _≡_}
+use native.Mathlib.Decide.{decLt}
+use native.Mathlib.Nat.{div-eq-of-lt, div-eq-of-lt-le, lt-of-le-of-lt, lt-of-lt-of-le, mod-lt, pow-suc, zero-div}
+use native.Mathlib.Omega.{arith}
+use Rattle.basis.specs.Choice.{both, pick}
+use Rattle.guest.specs.Bits.{bit, clearBit, highest, setBit}
+use Rattle.guest.specs.Deliver.{deliver, due, interrupt, quiet}
+use Rattle.guest.specs.declared.Delivery.{Delivery}
+use Rattle.guest.specs.declared.Found.the-variants.{At, Nothing}
+use Rattle.guest.specs.declared.Found.{Found}
+use Rattle.guest.specs.declared.Status.{Status}
+use Rattle.guest.specs.declared.Vm.{Vm}
+
+-- ---- one bit
+
+-- both digits are set where each is
+digit-and : (x y : ℕ) → x < 2 → y < 2 → eqb (bitAnd x y) 1 ≡ both (eqb x 1) (eqb y 1)
+digit-and zero zero p q = refl
+digit-and zero (suc zero) p q = refl
+digit-and zero (suc (suc y)) p q = absurd (omega arith)
+digit-and (suc zero) zero p q = refl
+digit-and (suc zero) (suc zero) p q = refl
+digit-and (suc zero) (suc (suc y)) p q = absurd (omega arith)
+digit-and (suc (suc x)) y p q = absurd (omega arith)
+
+pub bit-and : (n a b : ℕ) → bit n (bitAnd a b) ≡ both (bit n a) (bit n b)
+bit-and n a b =
+    ap (λ x. eqb (x % 2) 1) (and-shr a b n)
+    ∙ ap (λ x. eqb x 1) (and-mod (a / 2 ^ n) (b / 2 ^ n) 1)
+    ∙ digit-and (a / 2 ^ n % 2) (b / 2 ^ n % 2) (mod-lt (a / 2 ^ n) (omega arith)) (mod-lt (b / 2 ^ n) (omega arith))
+
+-- what `x & (1 << n)` is
+and-one : (n x : ℕ) → bitAnd x (2 ^ n) ≡ (x / 2 ^ n % 2) * 2 ^ n
+and-one n x = ap (bitAnd x) e ∙ and-high x 1 n
+  where
+    e : 2 ^ n ≡ 2 ^ (1 + n) - 2 ^ n
+    e = rw (pow-add 2 1 n) (omega arith)
+
+and-in : (n x : ℕ) → bit n x ≡ true → bitAnd x (2 ^ n) ≡ 2 ^ n
+and-in n x e = and-one n x ∙ rw (eqb-true (x / 2 ^ n % 2) 1 e) (omega arith)
+
+and-out : (n x : ℕ) → bit n x ≡ false → bitAnd x (2 ^ n) ≡ 0
+and-out n x e =
+    let d : x / 2 ^ n % 2 < 2 = mod-lt (x / 2 ^ n) (omega arith) in
+    let z : x / 2 ^ n % 2 ≡ 0 = omega (arith, d, eqb-false (x / 2 ^ n % 2) 1 e) in
+    and-one n x ∙ rw z (omega arith)
+
+pub or-sets : (n x p : ℕ) → p ≡ 2 ^ n → bitOr x p ≡ setBit n x
+unfolding setBit
+or-sets n x p f = rw f (go (bit n x) refl)
+  where
+    go : (b : Bool) → bit n x ≡ b → bitOr x (2 ^ n) ≡ pick b x (x + 2 ^ n)
+    go true e = omega (arith, or-add-and x (2 ^ n), and-in n x e)
+    go false e = omega (arith, or-add-and x (2 ^ n), and-out n x e)
+
+pub sub-clears : (n x p : ℕ) → p ≡ 2 ^ n → x - bitAnd x p ≡ clearBit n x
+unfolding clearBit
+sub-clears n x p f = rw f (go (bit n x) refl)
+  where
+    go : (b : Bool) → bit n x ≡ b → x - bitAnd x (2 ^ n) ≡ pick b (x - 2 ^ n) x
+    go true e = rw (and-in n x e)
+    go false e = rw (and-out n x e) (omega arith)
+
+-- ---- the highest
+
+module _ (p : ℕ → Bool) where
+  pub highest-none : (n : ℕ) → ((k : ℕ) → k < n → p k ≡ false) → highest p n ≡ Nothing
+  unfolding highest
+  highest-none zero h = refl
+  highest-none (suc n) h = rw (h n (omega arith)) (highest-none n (λ k l. h k (omega arith)))
+
+  pub highest-at : (n j : ℕ) → j < n → p j ≡ true → ((k : ℕ) → j < k → k < n → p k ≡ false) → highest p n ≡ At j
+  unfolding highest
+  highest-at zero j l e h = absurd (omega arith)
+  highest-at (suc n) j l e h =
+      elim (decLt j n) [
+        | yes i ↦ rw (h n i (omega arith)) (highest-at n j i e (λ k a b. h k a (omega arith)))
+        | no i ↦ (let q : n ≡ j = omega arith in rw (q, e))
+      ]
+
+  -- what the answer tells
+  pub none-is : (n : ℕ) → highest p n ≡ Nothing → (k : ℕ) → k < n → p k ≡ false
+  unfolding highest
+  none-is zero e k l = absurd (omega arith)
+  none-is (suc n) e k l = go (p n) refl e (λ f. none-is n f k)
+    where
+      go : (b : Bool) → p n ≡ b → pick b (At n) (highest p n) ≡ Nothing → (highest p n ≡ Nothing → k < n → p k ≡ false) → p k ≡ false
+      go true f g h = let z : _≡_ {A = ℕ} 0 1 = cc in absurd (omega arith)
+      go false f g h =
+          elim (decLt k n) [
+            | yes i ↦ h g i
+            | no i ↦ (let q : k ≡ n = omega arith in rw q f)
+          ]
+
+  pub at-is : (n j : ℕ) → highest p n ≡ At j → (j < n) × (p j ≡ true) × ((k : ℕ) → j < k → k < n → p k ≡ false)
+  unfolding highest
+  at-is zero j e = let z : _≡_ {A = ℕ} 0 1 = cc in absurd (omega arith)
+  at-is (suc n) j e = go (p n) refl e (at-is n j)
+    where
+      go : (b : Bool) → p n ≡ b → pick b (At n) (highest p n) ≡ At j
+          → (highest p n ≡ At j → (j < n) × (p j ≡ true) × ((k : ℕ) → j < k → k < n → p k ≡ false))
+          → (j < suc n) × (p j ≡ true) × ((k : ℕ) → j < k → k < suc n → p k ≡ false)
+      go true f g h = let q : n ≡ j = cc in (omega (arith, q), rw (← q) f, λ k a b. absurd (omega (arith, q)))
+      go false f g h =
+          let r = h g in
+          (omega (arith, r .0), r .1, λ k a b.
+            elim (decLt k n) [
+              | yes i ↦ r .2 k a i
+              | no i ↦ (let q : k ≡ n = omega arith in rw q f)
+            ])
+
+-- ---- the highest bit of a number, by its leading zeros
+
+bit-top : (j m : ℕ) → 2 ^ j ≤ m → m < 2 ^ suc j → bit j m ≡ true
+bit-top j m a b =
+    let e : m / 2 ^ j ≡ 1 = div-eq-of-lt-le (2 ^ j) (omega (arith, a)) (omega (arith, b, pow-suc 2 j)) in
+    rw e
+
+bit-over : (j k m : ℕ) → m < 2 ^ suc j → j < k → bit k m ≡ false
+bit-over j k m a b =
+    let e : m / 2 ^ k ≡ 0 = div-eq-of-lt (lt-of-lt-of-le a (pow-mono b)) in
+    rw e
+
+bit-zero : (k : ℕ) → bit k 0 ≡ false
+bit-zero k = rw (zero-div (2 ^ k))
+
+due-bit : (s : Status) (k : ℕ) → both (bit k (s .pending)) (bit k (s .enabled)) ≡ bit k (bitAnd (s .pending) (s .enabled))
+due-bit s k = sym (bit-and k (s .pending) (s .enabled))
+
+pub due-none : (s : Status) → bitAnd (s .pending) (s .enabled) ≡ 0 → Nothing ≡ due s
+unfolding due
+due-none s e = sym (highest-none _ 32 (λ k l. due-bit s k ∙ ap (bit k) e ∙ bit-zero k))
+
+pub due-top : (s : Status) (n : ℕ) → s .pending < 2 ^ 32 → (bitAnd (s .pending) (s .enabled) ≡ 0 → ⊥)
+    → n ≡ 31 - leadingZeros 32 (bitAnd (s .pending) (s .enabled)) → At n ≡ due s
+unfolding due
+due-top s n l z f =
+    let m = bitAnd (s .pending) (s .enabled) in
+    let t = leading-top 32 m (omega arith) (lt-of-le-of-lt (and-le-l (s .pending) (s .enabled)) l) in
+    let j : n ≡ t .0 = omega (arith, t .1, f) in
+    ap At j ∙ sym (highest-at _ 32 (t .0) (omega (arith, t .1)) (due-bit s (t .0) ∙ bit-top (t .0) m (t .2) (t .3))
+      (λ k a b. due-bit s k ∙ bit-over (t .0) k m (t .3) a))
+
+pub zeros-few : (m : ℕ) → 0 < m → m < 2 ^ 32 → leadingZeros 32 m ≤ 31
+zeros-few m p l = let t = leading-top 32 m p l in omega (arith, t .1)
+
+pub power-is : (n : ℕ) → n < 32 → 1 * 2 ^ n % 4294967296 ≡ 2 ^ n
+power-is n l = shl-exact {a = 1} 1 n 32 (omega arith) (omega arith) ∙ omega arith
+
+abbrev pub at-number : Vm → Found → Delivery
+at-number w f = record { vm = w; number = f }
+
+-- ---- a delivery by what the code found
+
+pub deliver-none : (h : ℕ) (v : Vm) (f : Found) → f ≡ due (v .status) → f ≡ Nothing → quiet v ≡ deliver h v
+unfolding deliver
+deliver-none h v f e g = rw (← e, g)
+
+pub deliver-at : (h n : ℕ) (v w : Vm) (f : Found) → f ≡ due (v .status) → f ≡ At n → w ≡ interrupt n h v → at-number w (At n) ≡ deliver h v
+unfolding deliver
+deliver-at h n v w f e g i = rw (← e, g, i)
+
+-- ---- the reader's theorems about what is due
+
+-- the number is below 32, pending and enabled, and no higher one is
+pub due-is : (s : Status) (n : ℕ) → due s ≡ At n
+    → (n < 32) × (both (bit n (s .pending)) (bit n (s .enabled)) ≡ true)
+      × ((k : ℕ) → n < k → k < 32 → both (bit k (s .pending)) (bit k (s .enabled)) ≡ false)
+unfolding due
+due-is s n e = at-is _ 32 n e
+
+pub due-nothing : (s : Status) → due s ≡ Nothing → (k : ℕ) → k < 32 → both (bit k (s .pending)) (bit k (s .enabled)) ≡ false
+unfolding due
+due-nothing s e = none-is _ 32 e
+
+pub due-few : (s : Status) (n : ℕ) → At n ≡ due s → n < 32
+due-few s n e = due-is s n (sym e) .0

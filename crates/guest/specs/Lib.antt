@@ -1,0 +1,4 @@
+pub mod Bits
+pub mod Record
+pub mod Deliver
+pub mod Write

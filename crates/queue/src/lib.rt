@@ -1,0 +1,177 @@
+// The queue for extra time (T5): sixteen places, the oldest entry first. Each result has zeros past its entries (W5).
+ghost use Prim.Native.Nat.{min, _+_, _-_, _<_};
+ghost use lib.Dec.{eqb, ltb};
+ghost use mathlib.Core.Bool.{false, true};
+ghost use mathlib.Core.List.{[]};
+ghost use mathlib.Core.Path.{_≡_};
+ghost use Rattle.basis.specs.Choice.{pick};
+ghost use Rattle.queue.specs.Entries.{entries, frontOf, ofList, others, paddedOf, pushed, rest};
+
+// A queue: its first `len` places are its entries.
+#[repr(C)]
+pub struct Queue {
+    pub items: [u8; 16], // VM numbers
+    pub len: u8, // how many of them are entries
+}
+
+impl Queue {
+    pub const PLACES: u8 = 16;
+
+    pub const NOBODY: u8 = 255;
+
+    pub fn empty() -> Queue
+        ensures { λ r. ⌜ r ≡ ofList [] ⌝ }
+    {
+        Queue {
+            items: [0; 16],
+            len: 0,
+        }
+    }
+
+    // The oldest entry, or NOBODY (D7).
+    pub fn front(self) -> u8
+        ensures { λ r. ⌜ r ≡ frontOf (entries self) ⌝ }
+    {
+        if self.len == 0 {
+            return Queue::NOBODY;
+        }
+        self.items[0]
+    }
+
+    // Without its oldest entry if `now`, else as it is (D7).
+    pub fn popped_if(self, now: bool) -> Queue
+        ensures { λ r. ⌜ r ≡ pick now (ofList (rest (entries self))) self ⌝ }
+    {
+        if now { self.popped() } else { self }
+    }
+
+    // Each place takes what the next one has; where that is no entry, zero.
+    fn popped(self) -> Queue
+        ensures { λ r. ⌜ r ≡ ofList (rest (entries self)) ⌝ }
+    {
+        let items = self.items;
+        let n = self.len;
+        let mut out: [u8; 16] = [0; 16];
+        let mut k: usize = 0;
+        while k < 15 {
+            out[k] = moved_up(k as u8, n, items[k + 1]);
+            k = k + 1;
+        }
+        Queue {
+            items: out,
+            len: one_less(n),
+        }
+    }
+
+    // With one entry for v at its end, unless all places are taken (D20, D29).
+    pub fn pushed(self, v: u8) -> Queue
+        ensures { λ r. ⌜ r ≡ pushed v self ⌝ }
+    {
+        let n = self.len;
+        if n < Queue::PLACES {
+            let items = self.items;
+            let mut out: [u8; 16] = [0; 16];
+            let mut k: usize = 0;
+            while k < 16 {
+                out[k] = or_joined(k as u8, n, items[k], v);
+                k = k + 1;
+            }
+            return Queue {
+                items: out,
+                len: n + 1,
+            };
+        }
+        self
+    }
+
+    // Without the entries for v, the others in their order (D14, D18).
+    pub fn without(self, v: u8) -> Queue
+        ensures { λ r. ⌜ r ≡ ofList (others v (entries self)) ⌝ }
+    {
+        let items = self.items;
+        let len = self.len;
+        let mut out: [u8; 16] = [0; 16];
+        let mut n: usize = 0;
+        let mut k: usize = 0;
+        while k < 16 {
+            if stays(k as u8, len, items[k], v) {
+                out[n] = items[k];
+                n = n + 1;
+            }
+            k = k + 1;
+        }
+        Queue {
+            items: out,
+            len: n as u8,
+        }
+    }
+
+    // W5: whether the places past the entries hold zero. Their bits are joined with no exit, so that this compiles to vector code.
+    pub fn padded(self) -> bool
+        ensures { λ r. ⌜ r ≡ paddedOf self ⌝ }
+    {
+        let items = self.items;
+        let n = self.len;
+        let mut bits: u8 = 0;
+        let mut k: usize = 0;
+        while k < 16 {
+            bits = bits | past(k as u8, n, items[k]);
+            k = k + 1;
+        }
+        bits == 0
+    }
+}
+
+// What place k holds when the oldest of n entries has left; `next` is what place k + 1 held.
+fn moved_up(k: u8, n: u8, next: u8) -> u8
+    requires { ⌜ k < 15 ⌝ }
+    ensures { λ r. ⌜ r ≡ pick (ltb (k + 1) n) next 0 ⌝ }
+{
+    if k + 1 < n { next } else { 0 }
+}
+
+// How many entries are left of n when one has left; no more than 16 are entries.
+fn one_less(n: u8) -> u8
+    ensures { λ r. ⌜ r ≡ min n 16 - 1 ⌝ }
+{
+    if n == 0 {
+        return 0;
+    }
+    if Queue::PLACES < n {
+        return 15;
+    }
+    n - 1
+}
+
+// What place k holds when v has joined at the place `end`, the first past the entries; x is what it held.
+fn or_joined(k: u8, end: u8, x: u8, v: u8) -> u8
+    ensures { λ r. ⌜ r ≡ pick (ltb k end) x (pick (eqb k end) v 0) ⌝ }
+{
+    if k < end {
+        return x;
+    }
+    if k == end {
+        return v;
+    }
+    0
+}
+
+// Whether place k, which holds x, is one of the n entries and not for v.
+fn stays(k: u8, n: u8, x: u8, v: u8) -> bool
+    ensures { λ r. ⌜ r ≡ pick (ltb k n) (pick (eqb x v) false true) false ⌝ }
+{
+    if k < n {
+        if x == v {
+            return false;
+        }
+        return true;
+    }
+    false
+}
+
+// What place k, which holds x, has past n entries.
+fn past(k: u8, n: u8, x: u8) -> u8
+    ensures { λ r. ⌜ r ≡ pick (ltb k n) 0 x ⌝ }
+{
+    if k < n { 0 } else { x }
+}
