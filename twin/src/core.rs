@@ -37,7 +37,9 @@ impl Core {
         match event {
             Event::Start => self.start(),
             Event::Tick { address } => self.tick(address),
-            Event::Stop { vm } => self.end_vm(vm, Standing::Stopped, Notice { number: 1, vm, code: 0, data: 0 }),
+            Event::Stop { vm } => {
+                self.end_vm(vm, Standing::Stopped, Notice { number: 1, vm, code: 0, data: 0 })
+            }
             Event::Shutdown { vm } => self.ask_shutdown(vm),
             Event::Restart { vm } => self.restart(vm),
             Event::Extra { vm } => {

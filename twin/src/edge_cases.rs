@@ -6,6 +6,7 @@ use crate::flaw::Flaw;
 use crate::frames::{Case, MAX_PART};
 use crate::generate_image::{config_of, faulty_image, legal_config};
 use crate::generate_log::LogMaker;
+use crate::image_read::{KIND_CORE, KIND_END, KIND_SLOT, KIND_VM};
 use crate::image_write::image_bytes;
 use crate::limits::{MAX_LOG_BYTES, MAX_QUEUE, MAX_SLOTS, MAX_VMS};
 use crate::log_codec::{event_body_length, log_of, KIND_FAULT, KIND_START};
@@ -19,7 +20,7 @@ pub fn edge_cases(random: &mut Random) -> Vec<Case> {
         scripted(&small(1, 0), &every_number()),
         scripted(&small(1, 2), &every_offset()),
         scripted(&small(2, 1), &every_refusal()),
-        scripted(&small(1, 1), &every_service()),
+        scripted(&lone(1), &every_service()),
         scripted(&small(2, 3), &arguments()),
         scripted(&small(2, 0), &queue_edges(2)),
         scripted(&small(8, 16), &queue_edges(8)),
@@ -27,14 +28,15 @@ pub fn edge_cases(random: &mut Random) -> Vec<Case> {
         scripted(&small(2, 2), &[]),
         Case { image: Vec::new(), log: log_of(&[Event::Start]) },
         Case::default(),
-        long_slot(),
+        scripted(&wide(), &wide_slots()),
         one_slot_only(random),
     ];
-    cases.extend(long_logs(random));
     cases.extend((20..=28).flat_map(|fault| [fault; 6]).map(|fault| refused(random, fault)));
     cases.extend(full_images(random));
     cases.extend(image_edges());
     cases.extend(cut_logs());
+    cases.extend([long_slot(), many_ticks()]);
+    cases.extend(long_logs(random));
     cases
 }
 
@@ -55,8 +57,39 @@ fn small(vm_count: u8, queue_size: u8) -> Config {
     config
 }
 
+/// Two VMs with three ticks each, and a spare tick between them.
+fn wide() -> Config {
+    let mut config = small(2, 4);
+    config.slot_count = 4;
+    let spare = Slot { owner: SPARE, ticks: 1 };
+    config.slots[..4].copy_from_slice(&[
+        Slot { owner: 0, ticks: 3 },
+        spare,
+        Slot { owner: 1, ticks: 3 },
+        spare,
+    ]);
+    config
+}
+
+/// Extra time beside slots of several ticks, and a stop and a restart in the midst of them.
+fn wide_slots() -> Vec<Event> {
+    let mut events = vec![Event::Start, TICK, call(4, 0), Event::Extra { vm: 1 }, call(4, 0)];
+    events.extend([TICK; 8]);
+    events.extend([Event::Restart { vm: 0 }, TICK, Event::Stop { vm: 0 }, TICK, Event::Restart { vm: 0 }]);
+    events.extend([TICK; 12]);
+    events
+}
+
+/// One VM, and a table that is all its own.
+fn lone(queue_size: u8) -> Config {
+    let mut config = small(1, queue_size);
+    config.slot_count = 1;
+    config.slots[1] = Slot::default();
+    config
+}
+
 fn call(service: u8, argument: u32) -> Event {
-    Event::Call { service, argument, next: 0x2000 + 4 * argument.wrapping_add(u32::from(service)) }
+    Event::Call { service, argument, next: 0x2000 + 4 * (argument & 0xff) + 0x400 * u32::from(service) }
 }
 
 fn write(offset: u8, value: u32) -> Event {
@@ -111,7 +144,7 @@ fn master(vm: u8) -> [Event; 4] {
 fn every_service() -> Vec<Event> {
     let mut events = vec![Event::Start];
     for service in 0..=255 {
-        events.extend([TICK, TICK, call(service, 3), Event::Restart { vm: 0 }]);
+        events.extend([TICK, write(8, 0xff), call(service, 3), call(0, 0), Event::Restart { vm: 0 }]);
     }
     events
 }
@@ -120,34 +153,31 @@ fn arguments() -> Vec<Event> {
     let mut events = vec![Event::Start];
     let numbers = [0, 30, 31, 32, 33, 63, 64, 0x100, 0x1_0003, 0x8000_0000, 0xffff_ffe0, u32::MAX];
     for argument in numbers {
-        events.extend([TICK, TICK, TICK, call(2, argument), write(8, u32::MAX), call(0, 0)]);
-        events.extend([Event::Restart { vm: 0 }, Event::Restart { vm: 1 }]);
+        events.extend([TICK, call(2, argument), write(8, u32::MAX), call(0, 0), TICK]);
+        events.extend([call(2, argument), Event::Restart { vm: 0 }, Event::Restart { vm: 1 }, TICK]);
     }
     events
 }
 
 /// Fills the queue past its size in both ways, then uses and loses entries.
 fn queue_edges(vms: u8) -> Vec<Event> {
-    let mut events = vec![Event::Start, TICK];
+    let mut events = vec![Event::Start, TICK, write(8, u32::MAX), write(32, 0x88)];
     for round in 0..=16 {
         events.push(Event::Extra { vm: round % vms });
     }
     events.extend([call(4, 0), call(4, 0)]);
-    for _ in 0..=vms {
-        events.push(TICK);
-    }
+    events.extend(vec![TICK; usize::from(vms) + 1]);
     events.extend([call(4, 0), call(4, 0), Event::Stop { vm: 0 }, Event::Restart { vm: vms - 1 }, TICK]);
     events.extend([Event::Extra { vm: vms - 1 }, Event::Extra { vm: vms - 1 }, Event::Restart { vm: 0 }]);
-    for _ in 0..=3 * (vms + 1) {
-        events.push(TICK);
-    }
+    events.extend(vec![TICK; 3 * (usize::from(vms) + 1) + 1]);
     events
 }
 
 /// Every way out of ready and back, for a running VM and for one that waits.
 fn standings() -> Vec<Event> {
     let mut events = vec![Event::Start, Event::Restart { vm: 1 }, TICK];
-    let ends = [Event::Stop { vm: 0 }, call(3, 0), Event::Fault { code: 5, data: 1 }, call(2, 99), call(77, 0)];
+    let ends =
+        [Event::Stop { vm: 0 }, call(3, 0), Event::Fault { code: 5, data: 1 }, call(2, 99), call(77, 0)];
     for end in ends {
         events.extend([call(4, 0), Event::Extra { vm: 1 }, end, Event::Stop { vm: 0 }, TICK, TICK, TICK]);
         events.extend([Event::Restart { vm: 0 }, TICK, TICK, write(8, 0x900), Event::Restart { vm: 0 }]);
@@ -166,6 +196,13 @@ fn long_slot() -> Case {
     let mut events = vec![Event::Start];
     events.extend([TICK; 2_010]);
     scripted(&config, &events)
+}
+
+/// As many ticks as a log can hold, all of them run by one VM.
+fn many_ticks() -> Case {
+    let mut events = vec![Event::Start];
+    events.extend(vec![TICK; (MAX_LOG_BYTES - 1) / 5]);
+    scripted(&lone(0), &events)
 }
 
 fn one_slot_only(random: &mut Random) -> Case {
@@ -201,11 +238,13 @@ fn full_images(random: &mut Random) -> Vec<Case> {
     let image = image_bytes(&config, Flaw::None);
     let log = LogMaker::new(random, &config).events(300);
     let longer = [image.clone(), vec![0; 70]].concat();
+    let one_more = [&image[..image.len() - 1], &[KIND_SLOT, 200, 0, 0, KIND_END]].concat();
     let longest = [image.clone(), vec![4; MAX_PART - image.len()]].concat();
     vec![
         Case { image, log },
         Case { image: longer, log: vec![KIND_START] },
         Case { image: longest, log: Vec::new() },
+        Case { image: one_more, log: Vec::new() },
     ]
 }
 
@@ -221,7 +260,16 @@ fn image_edges() -> Vec<Case> {
     longest_slot.image[15] = 3;
     let mut too_long = longest_slot.clone();
     too_long.image[14] = 0xe9;
+    let cut = |tail: &[u8]| Case { image: [&base[..12], tail].concat(), log: Vec::new() };
+    let mut of_nobody = changed(13, 1);
+    of_nobody.image[14] = 0;
     vec![
+        of_nobody,
+        changed(12, KIND_CORE),
+        cut(&[KIND_VM, 0, 0]),
+        cut(&[KIND_END]),
+        cut(&[KIND_END, KIND_END]),
+        cut(&[KIND_SLOT, 255, 1, 0, KIND_END]),
         changed(1, 0),
         changed(1, 9),
         changed(2, 17),

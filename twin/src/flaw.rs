@@ -29,6 +29,12 @@ pub enum Flaw {
 }
 
 impl Flaw {
+    /// The wrong twin of this name.
+    pub fn named(name: &str) -> Result<Flaw, String> {
+        let found = Flaw::WRONG.iter().find(|(flaw, _)| format!("{flaw:?}") == name);
+        found.map(|(flaw, _)| *flaw).ok_or(format!("there is no wrong twin '{name}'"))
+    }
+
     /// Every wrong twin, with what it does wrong.
     pub const WRONG: [(Flaw, &'static str); 22] = [
         (Flaw::GuestClock, "raises the guest's own copy of ticksWhileRunning"),

@@ -62,10 +62,10 @@ fn read_up_to(input: &mut impl Read, length: usize) -> io::Result<Vec<u8>> {
 }
 
 /// Answers every case of a stream, as the program `many` does.
-pub fn answer_stream(input: &mut impl Read, output: &mut impl Write) -> io::Result<()> {
+pub fn answer_stream(input: &mut impl Read, output: &mut impl Write, flaw: Flaw) -> io::Result<()> {
     loop {
         match read_frame(input)? {
-            Frame::Case(case) => output.write_all(&many_text(&case.image, &case.log, Flaw::None))?,
+            Frame::Case(case) => output.write_all(&many_text(&case.image, &case.log, flaw))?,
             Frame::End => return output.flush(),
             Frame::Torn => {
                 output.write_all(b"torn\n")?;

@@ -10,7 +10,11 @@ use crate::random::Random;
 /// A legal configuration with many small slots, so that a run soon goes round its table.
 pub fn legal_config(random: &mut Random) -> Config {
     let vm_count = if random.percent(20) { random.pick(&[1, MAX_VMS]) } else { random.between(1, MAX_VMS) };
-    let queue_size = if random.percent(30) { random.pick(&[0, MAX_QUEUE]) } else { random.between(1, 8) };
+    let queue_size = match random.below(10) {
+        0..=2 => random.pick(&[0, MAX_QUEUE]),
+        3..=4 => random.between(1, MAX_QUEUE - 1),
+        _ => random.between(1, 4),
+    };
     let most = if random.percent(10) { MAX_SLOTS } else { vm_count + 6 };
     let slot_count = random.between(vm_count, most.min(MAX_SLOTS));
     config_of(random, vm_count, queue_size, slot_count)
@@ -50,7 +54,8 @@ fn vm_place(random: &mut Random, index: usize) -> VmPlace {
 /// One style has slots of any length, the others short ones.
 fn duration(random: &mut Random, style: usize) -> u16 {
     if style == 0 {
-        return random.pick(&[1, 2, 255, 256, MAX_SLOT_TICKS - 1, MAX_SLOT_TICKS]);
+        let any = random.between(1, usize::from(MAX_SLOT_TICKS)) as u16;
+        return random.pick(&[1, 2, any, 255, 256, MAX_SLOT_TICKS - 1, MAX_SLOT_TICKS]);
     }
     random.pick(&[1, 1, 1, 2, 2, 3, 5])
 }

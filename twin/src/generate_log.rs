@@ -7,7 +7,7 @@ use crate::flaw::Flaw;
 use crate::generate_values::{address, any_event, argument, mask, write_offset};
 use crate::log_codec::write_record;
 use crate::random::Random;
-use crate::state::Standing;
+use crate::state::{ENABLED, PREVIOUS_ENABLED};
 
 /// What a log is mostly about: how likely each kind of step is.
 #[derive(Clone, Copy, Debug)]
@@ -31,7 +31,8 @@ const MOODS: [Mood; 5] = [
 ];
 
 /// Nearly only ticks, for long runs.
-const TICKING: Mood = Mood { tick: 940, call: 20, write: 15, fault: 1, master: 6, extra: 15, odd: 2, burst: 1 };
+const TICKING: Mood =
+    Mood { tick: 940, call: 20, write: 15, fault: 1, master: 6, extra: 15, odd: 2, burst: 1 };
 
 /// A log under construction and the state after it.
 pub struct LogMaker<'a> {
@@ -83,8 +84,10 @@ impl<'a> LogMaker<'a> {
             let event = if self.random.percent(85) { Event::Start } else { any_event(self.random) };
             return self.push(event);
         }
-        if self.nobody_ready() && self.random.percent(40) {
-            return self.restart_somebody();
+        let resting = self.resting();
+        if !resting.is_empty() && self.random.percent(4 + 4 * resting.len()) {
+            let vm = self.random.pick(&resting);
+            return self.push(Event::Restart { vm });
         }
         let mood = self.mood;
         let weights =
@@ -105,8 +108,14 @@ impl<'a> LogMaker<'a> {
         }
     }
 
-    fn nobody_ready(&self) -> bool {
-        self.core.state.vms.iter().all(|vm| vm.standing != Standing::Ready)
+    /// The VMs that are not ready.
+    fn resting(&self) -> Vec<u8> {
+        (0..self.core.config.vm_count).filter(|vm| !self.core.is_ready(*vm)).collect()
+    }
+
+    /// A field of the running VM.
+    fn own_field(&self, field: usize) -> u32 {
+        self.core.state.running.map_or(0, |vm| self.core.vm(vm).fields[field])
     }
 
     fn tick(&mut self) {
@@ -114,8 +123,11 @@ impl<'a> LogMaker<'a> {
         self.push(Event::Tick { address });
     }
 
+    /// A call; in a handler mostly the return from it.
     fn call(&mut self) {
-        let service = match self.random.weighted(&[24, 24, 24, 3, 22, 3]) {
+        let in_handler = self.own_field(ENABLED) == 0 && self.own_field(PREVIOUS_ENABLED) != 0;
+        let weights = if in_handler { [15, 60, 10, 1, 12, 2] } else { [28, 14, 30, 3, 22, 3] };
+        let service = match self.random.weighted(&weights) {
             5 => self.random.byte(),
             service => service as u8,
         };
@@ -124,8 +136,10 @@ impl<'a> LogMaker<'a> {
         self.push(Event::Call { service, argument, next });
     }
 
+    /// A write; mostly it enables something where nothing is enabled.
     fn write(&mut self) {
-        let offset = write_offset(self.random);
+        let deaf = self.own_field(ENABLED) == 0 && self.random.percent(50);
+        let offset = if deaf { 8 } else { write_offset(self.random) };
         let value = mask(self.random);
         self.push(Event::Write { offset, value });
     }
@@ -143,10 +157,10 @@ impl<'a> LogMaker<'a> {
     /// Stop or Shutdown for a ready VM, Restart for one that is not, and sometimes for one that is.
     fn master(&mut self) {
         let vm = self.vm();
-        let ready = self.core.state.vms[usize::from(vm)].standing == Standing::Ready;
+        let ready = self.core.is_ready(vm);
         let event = match self.random.below(10) {
-            0..=3 if ready => Event::Shutdown { vm },
-            4..=6 if ready => Event::Stop { vm },
+            0..=4 if ready => Event::Shutdown { vm },
+            5..=6 if ready => Event::Stop { vm },
             _ => Event::Restart { vm },
         };
         self.push(event);
@@ -154,17 +168,12 @@ impl<'a> LogMaker<'a> {
 
     fn extra(&mut self) {
         let vm = self.vm();
-        let ready = self.core.state.vms[usize::from(vm)].standing == Standing::Ready;
+        let ready = self.core.is_ready(vm);
         if ready && (!self.core.queue_full() || self.random.percent(10)) {
             self.push(Event::Extra { vm });
         } else {
             self.tick();
         }
-    }
-
-    fn restart_somebody(&mut self) {
-        let vm = self.vm();
-        self.push(Event::Restart { vm });
     }
 
     /// A short row of events that belong together.
@@ -192,8 +201,8 @@ impl<'a> LogMaker<'a> {
 
     fn raise_and_sync(&mut self) {
         let number = self.random.below(32) as u32;
-        let next = address(self.random);
-        self.push(Event::Write { offset: 8, value: 1 << number | mask(self.random) });
+        let (next, more) = (address(self.random), mask(self.random));
+        self.push(Event::Write { offset: 8, value: 1 << number | more });
         self.push(Event::Call { service: 2, argument: number, next });
         self.push(Event::Call { service: 0, argument: 0, next: next.wrapping_add(4) });
         self.push(Event::Call { service: 1, argument: 0, next: next.wrapping_add(8) });
@@ -234,10 +243,8 @@ impl<'a> LogMaker<'a> {
     }
 
     fn restart_the_rest(&mut self) {
-        for vm in 0..self.core.config.vm_count {
-            if self.core.state.vms[usize::from(vm)].standing != Standing::Ready {
-                self.push(Event::Restart { vm });
-            }
+        for vm in self.resting() {
+            self.push(Event::Restart { vm });
         }
     }
 }

@@ -1,8 +1,16 @@
 //! The independent twin: a second codec, core and run text, and the tools that compare with them.
 
 pub mod actions;
+pub mod child;
+pub mod commands;
+pub mod compare;
+pub mod compare_folders;
+pub mod compare_stream;
 pub mod config;
 pub mod core;
+pub mod coverage;
+pub mod coverage_marks;
+pub mod difference;
 pub mod digits;
 pub mod edge_cases;
 pub mod event;
@@ -16,9 +24,11 @@ pub mod image_read;
 pub mod image_write;
 pub mod limits;
 pub mod log_codec;
+pub mod options;
 pub mod random;
 pub mod refusal;
 pub mod run_text;
+pub mod selftest;
 pub mod state;
 pub mod text_parse;
 pub mod text_print;

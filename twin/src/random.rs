@@ -10,13 +10,14 @@ impl Random {
     /// The source of one case: seeds and case numbers next to each other give unrelated numbers.
     pub fn of_case(seed: u64, case: u64) -> Random {
         let mut source = Random { position: seed };
-        let start = source.next() ^ case.wrapping_mul(0xd134_2543_de82_ef95);
+        let start = source.draw() ^ case.wrapping_mul(0xd134_2543_de82_ef95);
         source.position = start;
-        source.next();
+        source.draw();
         source
     }
 
-    pub fn next(&mut self) -> u64 {
+    /// The next 64 bits.
+    pub fn draw(&mut self) -> u64 {
         self.position = self.position.wrapping_add(0x9e37_79b9_7f4a_7c15);
         let mixed = (self.position ^ (self.position >> 30)).wrapping_mul(0xbf58_476d_1ce4_e5b9);
         let mixed = (mixed ^ (mixed >> 27)).wrapping_mul(0x94d0_49bb_1331_11eb);
@@ -24,16 +25,16 @@ impl Random {
     }
 
     pub fn word(&mut self) -> u32 {
-        (self.next() >> 32) as u32
+        (self.draw() >> 32) as u32
     }
 
     pub fn byte(&mut self) -> u8 {
-        (self.next() >> 56) as u8
+        (self.draw() >> 56) as u8
     }
 
     /// A number from 0 up to, but without, the bound. The bound is above 0.
     pub fn below(&mut self, bound: usize) -> usize {
-        (self.next() % bound as u64) as usize
+        (self.draw() % bound as u64) as usize
     }
 
     /// A number from the first to the last, both included.

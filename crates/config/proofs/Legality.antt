@@ -88,9 +88,10 @@ empty-is n k x y e h =
 
 empty-of : (n k x y : ℕ) → (n ≤ k → (x ≡ 0) × (y ≡ 0)) → emptyPast n k x y ≡ true
 empty-of n k x y h =
-    elim (decLt k n)
-    [ yes l ↦ either-left (ltb k n) _ (lt-ltb k n l)
-    | no l ↦ (let e = h (omega arith) in either-right (ltb k n) _ (both-of (eqb x 0) (eqb y 0) (eq-eqb x 0 (e .0)) (eq-eqb y 0 (e .1)))) ]
+    elim (decLt k n) [
+      | yes l ↦ either-left (ltb k n) _ (lt-ltb k n l)
+      | no l ↦ (let e = h (omega arith) in either-right (ltb k n) _ (both-of (eqb x 0) (eqb y 0) (eq-eqb x 0 (e .0)) (eq-eqb y 0 (e .1))))
+    ]
 
 -- the rules that the test joins
 record Rules (c : Config) : Type 0 where
@@ -112,16 +113,16 @@ rules-is c e =
     let e4 = both-right (durationsFit c) _ e3 in
     let e5 = both-right (ownersFit c) _ e4 in
     let e6 = both-right (vmsServed c) _ e5 in
-    record
-      { vms = both-left (vmsFit c) _ e
-      ; queue = both-left (roomFits c) _ e1
-      ; table = both-left (slotsFit c) _ e2
-      ; durations = both-left (durationsFit c) _ e3
-      ; owners = both-left (ownersFit c) _ e4
-      ; served = both-left (vmsServed c) _ e5
-      ; vms-empty = both-left (vmsRest c) _ e6
-      ; slots-empty = both-right (vmsRest c) _ e6
-      }
+    record {
+      vms = both-left (vmsFit c) _ e;
+      queue = both-left (roomFits c) _ e1;
+      table = both-left (slotsFit c) _ e2;
+      durations = both-left (durationsFit c) _ e3;
+      owners = both-left (ownersFit c) _ e4;
+      served = both-left (vmsServed c) _ e5;
+      vms-empty = both-left (vmsRest c) _ e6;
+      slots-empty = both-right (vmsRest c) _ e6;
+    }
 
 -- a configuration that passes the test keeps the rules
 pub legal-is : (c : Config) → legal c ≡ true → Legal c
@@ -130,17 +131,17 @@ legal-is c e =
     let r = rules-is c e in
     let long = every-is _ (c .slots) (r .durations) in
     let own = every-is _ (c .slots) (r .owners) in
-    record
-      { vms = within-is 1 8 (c .count) (r .vms)
-      ; queue = leb-true (c .room) 16 (r .queue)
-      ; table = within-is 1 64 (c .slots) (r .table)
-      ; spares = λ k h. lasts-spare (ownerAt c k) (durationAt c k) (long k h)
-      ; named = λ k h. lasts-named (ownerAt c k) (durationAt c k) (long k h)
-      ; owned = λ k h. names-is (c .count) (ownerAt c k) (own k h)
-      ; served = λ v h. (let s = some-is _ (c .slots) (every-is _ (c .count) (r .served) v h) in (s .0, s .1, eqb-true (ownerAt c (s .0)) v (s .2)))
-      ; vms-empty = λ k h l. empty-is (c .count) k (entryAt c k) (handlerAt c k) (every-is _ 8 (r .vms-empty) k l) h
-      ; slots-empty = λ k h l. empty-is (c .slots) k (ownerAt c k) (durationAt c k) (every-is _ 64 (r .slots-empty) k l) h
-      }
+    record {
+      vms = within-is 1 8 (c .count) (r .vms);
+      queue = leb-true (c .room) 16 (r .queue);
+      table = within-is 1 64 (c .slots) (r .table);
+      spares = λ k h. lasts-spare (ownerAt c k) (durationAt c k) (long k h);
+      named = λ k h. lasts-named (ownerAt c k) (durationAt c k) (long k h);
+      owned = λ k h. names-is (c .count) (ownerAt c k) (own k h);
+      served = λ v h. (let s = some-is _ (c .slots) (every-is _ (c .count) (r .served) v h) in (s .0, s .1, eqb-true (ownerAt c (s .0)) v (s .2)));
+      vms-empty = λ k h l. empty-is (c .count) k (entryAt c k) (handlerAt c k) (every-is _ 8 (r .vms-empty) k l) h;
+      slots-empty = λ k h l. empty-is (c .slots) k (ownerAt c k) (durationAt c k) (every-is _ 64 (r .slots-empty) k l) h;
+    }
 
 -- and a configuration that keeps the rules passes it
 pub legal-of : (c : Config) → Legal c → legal c ≡ true

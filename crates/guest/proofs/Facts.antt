@@ -6,7 +6,6 @@ use mathlib.Core.Bool.{Bool, false, true}
 use mathlib.Core.Path.{ap, refl, sym, _∙_, _≡_}
 use Rattle.basis.proofs.Laws.{both-left, both-right, false-true}
 use Rattle.basis.specs.Choice.{both, pick}
-use Rattle.guest.proofs.Laws.{at-number}
 use Rattle.guest.specs.Bits.{setBit}
 use Rattle.guest.specs.Deliver.{deliver, deliverBy, due, enter, interrupt, quiet, shown}
 use Rattle.guest.specs.Record.{blank, fresh, isBlank, isFresh, pend, withPending, withStatus}
@@ -42,7 +41,7 @@ blank-is s e0 =
     let e8 = zero-first (s .restore) _ (e7 .1) in
     let e9 = zero-first (s .ontick) _ (e8 .1) in
     status-zero (s .since) (s .left) (s .enabled) (s .pending) (s .resume) (s .reason) (s .previous) (s .restore) (s .ontick) (s .running)
-      (e1 .0) (e2 .0) (e3 .0) (e4 .0) (e5 .0) (e6 .0) (e7 .0) (e8 .0) (e9 .0) (eqb-true (s .running) 0 (e9 .1))
+    (e1 .0) (e2 .0) (e3 .0) (e4 .0) (e5 .0) (e6 .0) (e7 .0) (e8 .0) (e9 .0) (eqb-true (s .running) 0 (e9 .1))
 
 -- the test of W2 says that the record is the fresh one
 pub fresh-is : (v : Vm) → isFresh v ≡ true → v ≡ fresh
@@ -100,7 +99,7 @@ pub deliver-quiet : (h : ℕ) (v : Vm) → due (v .status) ≡ Nothing → deliv
 unfolding deliver
 deliver-quiet h v e = ap (deliverBy h v) e
 
-pub deliver-hit : (h n : ℕ) (v : Vm) → due (v .status) ≡ At n → deliver h v ≡ at-number (interrupt n h v) (At n)
+pub deliver-hit : (h n : ℕ) (v : Vm) → due (v .status) ≡ At n → deliver h v ≡ record { vm = interrupt n h v; number = At n }
 unfolding deliver
 deliver-hit h n v e = ap (deliverBy h v) e
 
@@ -155,10 +154,17 @@ field-miss o k e f = ne-eqb o k (λ q. false-true (sym e ∙ ap isField q ∙ f)
 status-kept : (a b c d e f g h i j : Bool) (x : ℕ) (s : Status) → a ≡ false → b ≡ false → c ≡ false → d ≡ false → e ≡ false
     → f ≡ false → g ≡ false → h ≡ false → i ≡ false → j ≡ false
     → _≡_ {A = Status} (record {
-        since = pick a x (s .since); left = pick b x (s .left); enabled = pick c x (s .enabled); pending = pick d x (s .pending);
-        resume = pick e x (s .resume); reason = pick f x (s .reason); previous = pick g x (s .previous); restore = pick h x (s .restore);
-        ontick = pick i x (s .ontick); running = pick j x (s .running)
-      }) s
+      since = pick a x (s .since);
+      left = pick b x (s .left);
+      enabled = pick c x (s .enabled);
+      pending = pick d x (s .pending);
+      resume = pick e x (s .resume);
+      reason = pick f x (s .reason);
+      previous = pick g x (s .previous);
+      restore = pick h x (s .restore);
+      ontick = pick i x (s .ontick);
+      running = pick j x (s .running);
+    }) s
 status-kept a b c d e f g h i j x s p q r t u v w y z o = rw (p, q, r, t, u, v, w, y, z, o)
 
 pub write-none : (o x : ℕ) (v : Vm) → isField o ≡ false → write o x v ≡ v
@@ -166,8 +172,8 @@ unfolding write stored isField
 write-none o x v e =
     let m : (k : ℕ) → isField k ≡ true → eqb o k ≡ false = λ k f. field-miss o k e f in
     ap (withStatus v)
-      (status-kept (eqb o 0) (eqb o 4) (eqb o 8) (eqb o 12) (eqb o 16) (eqb o 20) (eqb o 24) (eqb o 28) (eqb o 32) (eqb o 36) x (v .status)
-        (m 0 refl) (m 4 refl) (m 8 refl) (m 12 refl) (m 16 refl) (m 20 refl) (m 24 refl) (m 28 refl) (m 32 refl) (m 36 refl))
+    (status-kept (eqb o 0) (eqb o 4) (eqb o 8) (eqb o 12) (eqb o 16) (eqb o 20) (eqb o 24) (eqb o 28) (eqb o 32) (eqb o 36) x (v .status)
+    (m 0 refl) (m 4 refl) (m 8 refl) (m 12 refl) (m 16 refl) (m 20 refl) (m 24 refl) (m 28 refl) (m 32 refl) (m 36 refl))
 
 pend-keeps : {A : Type 0} (f : Vm → A) (n : ℕ) (v : Vm) → f (withStatus v (withPending (v .status) (setBit n (v .status .pending)))) ≡ f v → f (pend n v) ≡ f v
 unfolding pend

@@ -44,7 +44,7 @@ and-one n x = ap (bitAnd x) e ∙ and-high x 1 n
     e : 2 ^ n ≡ 2 ^ (1 + n) - 2 ^ n
     e = rw (pow-add 2 1 n) (omega arith)
 
-and-in : (n x : ℕ) → bit n x ≡ true → bitAnd x (2 ^ n) ≡ 2 ^ n
+pub and-in : (n x : ℕ) → bit n x ≡ true → bitAnd x (2 ^ n) ≡ 2 ^ n
 and-in n x e = and-one n x ∙ rw (eqb-true (x / 2 ^ n % 2) 1 e) (omega arith)
 
 and-out : (n x : ℕ) → bit n x ≡ false → bitAnd x (2 ^ n) ≡ 0
@@ -110,21 +110,24 @@ module _ (p : ℕ → Bool) where
           → (j < suc n) × (p j ≡ true) × ((k : ℕ) → j < k → k < suc n → p k ≡ false)
       go true f g h = let q : n ≡ j = cc in (omega (arith, q), rw (← q) f, λ k a b. absurd (omega (arith, q)))
       go false f g h =
-          let r = h g in
-          (omega (arith, r .0), r .1, λ k a b.
-            elim (decLt k n) [
-              | yes i ↦ r .2 k a i
-              | no i ↦ (let q : k ≡ n = omega arith in rw q f)
-            ])
+          let r = h g in (
+            omega (arith, r .0),
+            r .1,
+            λ k a b.
+                elim (decLt k n) [
+                  | yes i ↦ r .2 k a i
+                  | no i ↦ (let q : k ≡ n = omega arith in rw q f)
+                ],
+          )
 
 -- ---- the highest bit of a number, by its leading zeros
 
-bit-top : (j m : ℕ) → 2 ^ j ≤ m → m < 2 ^ suc j → bit j m ≡ true
+pub bit-top : (j m : ℕ) → 2 ^ j ≤ m → m < 2 ^ suc j → bit j m ≡ true
 bit-top j m a b =
     let e : m / 2 ^ j ≡ 1 = div-eq-of-lt-le (2 ^ j) (omega (arith, a)) (omega (arith, b, pow-suc 2 j)) in
     rw e
 
-bit-over : (j k m : ℕ) → m < 2 ^ suc j → j < k → bit k m ≡ false
+pub bit-over : (j k m : ℕ) → m < 2 ^ suc j → j < k → bit k m ≡ false
 bit-over j k m a b =
     let e : m / 2 ^ k ≡ 0 = div-eq-of-lt (lt-of-lt-of-le a (pow-mono b)) in
     rw e
@@ -147,7 +150,7 @@ due-top s n l z f =
     let t = leading-top 32 m (omega arith) (lt-of-le-of-lt (and-le-l (s .pending) (s .enabled)) l) in
     let j : n ≡ t .0 = omega (arith, t .1, f) in
     ap At j ∙ sym (highest-at _ 32 (t .0) (omega (arith, t .1)) (due-bit s (t .0) ∙ bit-top (t .0) m (t .2) (t .3))
-      (λ k a b. due-bit s k ∙ bit-over (t .0) k m (t .3) a))
+    (λ k a b. due-bit s k ∙ bit-over (t .0) k m (t .3) a))
 
 pub zeros-few : (m : ℕ) → 0 < m → m < 2 ^ 32 → leadingZeros 32 m ≤ 31
 zeros-few m p l = let t = leading-top 32 m p l in omega (arith, t .1)
@@ -155,16 +158,14 @@ zeros-few m p l = let t = leading-top 32 m p l in omega (arith, t .1)
 pub power-is : (n : ℕ) → n < 32 → 1 * 2 ^ n % 4294967296 ≡ 2 ^ n
 power-is n l = shl-exact {a = 1} 1 n 32 (omega arith) (omega arith) ∙ omega arith
 
-abbrev pub at-number : Vm → Found → Delivery
-at-number w f = record { vm = w; number = f }
-
 -- ---- a delivery by what the code found
 
 pub deliver-none : (h : ℕ) (v : Vm) (f : Found) → f ≡ due (v .status) → f ≡ Nothing → quiet v ≡ deliver h v
 unfolding deliver
 deliver-none h v f e g = rw (← e, g)
 
-pub deliver-at : (h n : ℕ) (v w : Vm) (f : Found) → f ≡ due (v .status) → f ≡ At n → w ≡ interrupt n h v → at-number w (At n) ≡ deliver h v
+pub deliver-at : (h n : ℕ) (v w : Vm) (f : Found) → f ≡ due (v .status) → f ≡ At n → w ≡ interrupt n h v
+    → _≡_ {A = Delivery} (record { vm = w; number = At n }) (deliver h v)
 unfolding deliver
 deliver-at h n v w f e g i = rw (← e, g, i)
 
@@ -173,7 +174,7 @@ deliver-at h n v w f e g i = rw (← e, g, i)
 -- the number is below 32, pending and enabled, and no higher one is
 pub due-is : (s : Status) (n : ℕ) → due s ≡ At n
     → (n < 32) × (both (bit n (s .pending)) (bit n (s .enabled)) ≡ true)
-      × ((k : ℕ) → n < k → k < 32 → both (bit k (s .pending)) (bit k (s .enabled)) ≡ false)
+    × ((k : ℕ) → n < k → k < 32 → both (bit k (s .pending)) (bit k (s .enabled)) ≡ false)
 unfolding due
 due-is s n e = at-is _ 32 n e
 

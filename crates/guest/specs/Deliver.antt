@@ -17,8 +17,16 @@ due s = highest (λ n. both (bit n (s .pending)) (bit n (s .enabled))) 32
 abbrev pub statusAt : ℕ → ℕ → Status → Status
 statusAt n at s =
     record {
-      since = s .since; left = s .left; enabled = 0; pending = clearBit n (s .pending); resume = at; reason = n;
-      previous = s .enabled; restore = s .restore; ontick = s .ontick; running = s .running
+      since = s .since;
+      left = s .left;
+      enabled = 0;
+      pending = clearBit n (s .pending);
+      resume = at;
+      reason = n;
+      previous = s .enabled;
+      restore = s .restore;
+      ontick = s .ontick;
+      running = s .running;
     }
 
 -- D12: the VM goes on at its handler, and keeps where it was
@@ -41,8 +49,16 @@ deliver handler v = deliverBy handler v (due (v .status))
 abbrev pub statusIn : ℕ → ℕ → ℕ → Status → Status
 statusIn age left ran s =
     record {
-      since = age; left = left; enabled = s .enabled; pending = bitOr (s .pending) (s .ontick); resume = s .resume; reason = s .reason;
-      previous = s .previous; restore = s .restore; ontick = s .ontick; running = ran
+      since = age;
+      left = left;
+      enabled = s .enabled;
+      pending = bitOr (s .pending) (s .ontick);
+      resume = s .resume;
+      reason = s .reason;
+      previous = s .previous;
+      restore = s .restore;
+      ontick = s .ontick;
+      running = ran;
     }
 
 -- D8: one tick more that ran it, modulo 2 ^ 32
@@ -60,8 +76,16 @@ enter left handler v = deliver handler (shown left v)
 abbrev pub statusBack : Status → Status
 statusBack s =
     record {
-      since = s .since; left = s .left; enabled = s .previous; pending = s .pending; resume = s .resume; reason = s .reason;
-      previous = s .previous; restore = s .restore; ontick = s .ontick; running = s .running
+      since = s .since;
+      left = s .left;
+      enabled = s .previous;
+      pending = s .pending;
+      resume = s .resume;
+      reason = s .reason;
+      previous = s .previous;
+      restore = s .restore;
+      ontick = s .ontick;
+      running = s .running;
     }
 
 -- D26, without the delivery

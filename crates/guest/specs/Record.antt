@@ -65,8 +65,16 @@ withStatus v s = record { standing = v .standing; address = v .address; status =
 abbrev pub withPending : Status → ℕ → Status
 withPending s x =
     record {
-      since = s .since; left = s .left; enabled = s .enabled; pending = x; resume = s .resume; reason = s .reason;
-      previous = s .previous; restore = s .restore; ontick = s .ontick; running = s .running
+      since = s .since;
+      left = s .left;
+      enabled = s .enabled;
+      pending = x;
+      resume = s .resume;
+      reason = s .reason;
+      previous = s .previous;
+      restore = s .restore;
+      ontick = s .ontick;
+      running = s .running;
     }
 
 -- D17, D27: pseudo-interrupt n becomes pending; there is none over 31

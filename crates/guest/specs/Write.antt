@@ -24,7 +24,7 @@ stored offset x s =
       previous = pick (eqb offset 24) x (s .previous);
       restore = pick (eqb offset 28) x (s .restore);
       ontick = pick (eqb offset 32) x (s .ontick);
-      running = pick (eqb offset 36) x (s .running)
+      running = pick (eqb offset 36) x (s .running);
     }
 
 unfoldable pub write : ℕ → ℕ → Vm → Vm

@@ -1,7 +1,6 @@
 // Pseudo-interrupts as bits of a number: to find the one that is due, to add one, to take one out.
 use crate::Found;
 use crate::Status;
-
 ghost use Prim.Native.Nat.{_-_, _<_, _^_};
 ghost use lib.Count.{leadingZeros};
 ghost use mathlib.Core.Path.{_≡_};

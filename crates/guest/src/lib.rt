@@ -65,14 +65,26 @@ impl Vm {
     pub fn fresh() -> Vm
         ensures { λ r. ⌜ r ≡ fresh ⌝ }
     {
-        Vm { standing: Vm::NONE, address: 0, status: blank(), age: 0, ran: 0 }
+        Vm {
+            standing: Vm::NONE,
+            address: 0,
+            status: blank(),
+            age: 0,
+            ran: 0,
+        }
     }
 
     // A VM as Start and Restart make it (D1).
     pub fn started(entry: u32) -> Vm
         ensures { λ r. ⌜ r ≡ startedAt entry ⌝ }
     {
-        Vm { standing: Vm::READY, address: entry, status: blank(), age: 0, ran: 0 }
+        Vm {
+            standing: Vm::READY,
+            address: entry,
+            status: blank(),
+            age: 0,
+            ran: 0,
+        }
     }
 
     pub fn is_ready(self) -> bool
@@ -102,8 +114,9 @@ impl Vm {
     pub fn saved(self, at: u32) -> Vm
         ensures { λ r. ⌜ r ≡ savedAt at self ⌝ }
     {
-        let s = self.status;
-        Vm { standing: self.standing, address: at, status: s, age: self.age, ran: self.ran }
+        let mut v = self;
+        v.address = at;
+        v
     }
 
     pub fn saved_if(self, on: bool, at: u32) -> Vm
@@ -122,17 +135,18 @@ impl Vm {
     fn older(self) -> Vm
         ensures { λ r. ⌜ r ≡ older self ⌝ }
     {
-        let s = self.status;
-        let age = std::num::wrapping_add_u32(self.age, 1);
-        Vm { standing: self.standing, address: self.address, status: s, age: age, ran: self.ran }
+        let mut v = self;
+        v.age = std::num::wrapping_add_u32(self.age, 1);
+        v
     }
 
     // D14, D16.
     pub fn ended(self, standing: u8) -> Vm
         ensures { λ r. ⌜ r ≡ endedAs standing self ⌝ }
     {
-        let s = self.status;
-        Vm { standing: standing, address: self.address, status: s, age: self.age, ran: self.ran }
+        let mut v = self;
+        v.standing = standing;
+        v
     }
 
     // D17, D27.
@@ -144,7 +158,9 @@ impl Vm {
         }
         let mut s = self.status;
         s.pending = bits::with_bit(s.pending, n);
-        Vm { standing: self.standing, address: self.address, status: s, age: self.age, ran: self.ran }
+        let mut v = self;
+        v.status = s;
+        v
     }
 
     // D11, D12.
@@ -154,10 +170,16 @@ impl Vm {
         let s = self.status;
         let found = bits::due(s);
         match found {
-            Found::Nothing => Delivery { vm: self, number: Found::Nothing },
+            Found::Nothing => Delivery {
+                vm: self,
+                number: Found::Nothing,
+            },
             Found::At(n) => {
                 let vm = self.interrupted(n, handler);
-                Delivery { vm: vm, number: found }
+                Delivery {
+                    vm: vm,
+                    number: found,
+                }
             }
         }
     }
@@ -173,7 +195,10 @@ impl Vm {
         s.pending = bits::without_bit(s.pending, n);
         s.resume = self.address;
         s.reason = n as u32;
-        Vm { standing: self.standing, address: handler, status: s, age: self.age, ran: self.ran }
+        let mut v = self;
+        v.address = handler;
+        v.status = s;
+        v
     }
 
     // D8. The fields show the core's own numbers: what the VM wrote there counts for nothing.
@@ -186,7 +211,10 @@ impl Vm {
         s.left = left;
         s.running = ran;
         s.pending = s.pending | s.ontick;
-        Vm { standing: self.standing, address: self.address, status: s, age: self.age, ran: ran }
+        let mut v = self;
+        v.ran = ran;
+        v.status = s;
+        v
     }
 
     // D8 and D9, for the VM that a tick runs.
@@ -199,7 +227,14 @@ impl Vm {
     pub fn entered_if(self, on: bool, left: u32, handler: u32) -> Delivery
         ensures { λ r. ⌜ r ≡ pick on (enter left handler self) (quiet self) ⌝ }
     {
-        if on { self.entered(left, handler) } else { Delivery { vm: self, number: Found::Nothing } }
+        if on {
+            self.entered(left, handler)
+        } else {
+            Delivery {
+                vm: self,
+                number: Found::Nothing,
+            }
+        }
     }
 
     // D26, without the delivery.
@@ -208,7 +243,10 @@ impl Vm {
     {
         let mut s = self.status;
         s.enabled = s.previous;
-        Vm { standing: self.standing, address: s.resume, status: s, age: self.age, ran: self.ran }
+        let mut v = self;
+        v.address = s.resume;
+        v.status = s;
+        v
     }
 
     // D21.
@@ -216,7 +254,9 @@ impl Vm {
         ensures { λ r. ⌜ r ≡ write offset value self ⌝ }
     {
         let s = stored(offset, value, self.status);
-        Vm { standing: self.standing, address: self.address, status: s, age: self.age, ran: self.ran }
+        let mut v = self;
+        v.status = s;
+        v
     }
 
     // F1 to F10.
@@ -230,7 +270,18 @@ impl Vm {
 fn blank() -> Status
     ensures { λ r. ⌜ r ≡ blank ⌝ }
 {
-    Status { since: 0, left: 0, enabled: 0, pending: 0, resume: 0, reason: 0, previous: 0, restore: 0, ontick: 0, running: 0 }
+    Status {
+        since: 0,
+        left: 0,
+        enabled: 0,
+        pending: 0,
+        resume: 0,
+        reason: 0,
+        previous: 0,
+        restore: 0,
+        ontick: 0,
+        running: 0,
+    }
 }
 
 fn both(a: bool, b: bool) -> bool
@@ -242,8 +293,23 @@ fn both(a: bool, b: bool) -> bool
 fn is_blank(s: Status) -> bool
     ensures { λ r. ⌜ r ≡ isBlank s ⌝ }
 {
-    let five = both(s.reason == 0, both(s.previous == 0, both(s.restore == 0, both(s.ontick == 0, s.running == 0))));
-    both(s.since == 0, both(s.left == 0, both(s.enabled == 0, both(s.pending == 0, both(s.resume == 0, five)))))
+    let five = both(
+        s.reason == 0,
+        both(
+            s.previous == 0,
+            both(s.restore == 0, both(s.ontick == 0, s.running == 0)),
+        ),
+    );
+    both(
+        s.since == 0,
+        both(
+            s.left == 0,
+            both(
+                s.enabled == 0,
+                both(s.pending == 0, both(s.resume == 0, five)),
+            ),
+        ),
+    )
 }
 
 fn choice(on: bool, x: u32, y: u32) -> u32

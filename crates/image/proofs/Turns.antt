@@ -119,10 +119,11 @@ module _ {s : List ℕ} {from : ℕ} {vms c : Config} {at n : ℕ} (i : Slots s 
   turn-end e f h = (rw (part-is s at) at h) ∙ sym (slots-ends (64 - n) (drop at s) at c (sym (rw (part-is s at) at e) ∙ f)) ∙ opened
 
   pub turn-end-in : {b : ℕ} → b ≡ getD (part s at) 0 0 → b ≡ 4 → (at + length (part s at) ≤ length s) × (1 ≤ length (part s at)) × (c .slots ≤ 64)
-  turn-end-in e f =
-      ( omega (arith, length-take (length s - at) (drop at s), length-drop at s, i .inside)
-      , some-byte (part s at) (sym e ∙ f)
-      , omega (arith, i .counted) )
+  turn-end-in e f = (
+    omega (arith, length-take (length s - at) (drop at s), length-drop at s, i .inside),
+    some-byte (part s at) (sym e ∙ f),
+    omega (arith, i .counted),
+  )
 
   pub turn-bad : {b f : ℕ} {r : Reading} → b ≡ getD (part s at) 0 0 → (b ≡ 4 → ⊥) → f ≡ slotFault (c .count) n (part s at) → (f ≡ 0 → ⊥) → r ≡ refused f at
       → r ≡ readSlots 65 (drop from s) from vms
@@ -139,12 +140,12 @@ module _ {s : List ℕ} {from : ℕ} {vms c : Config} {at n : ℕ} (i : Slots s 
   turn-more {b} {f} {o} {t} {d} e g h k y z w =
       let q = turn-in h k in
       let one = slots-goes (64 - n) (drop at s) at c (λ x. g (rw (part-is s at) at e ∙ x)) (sym (rw (← i .counted, part-is s at) at h) ∙ k) in
-      record
-        { few = omega arith
-        ; counted = ap (λ (x : Config). x .slots) w ∙ ap (λ (x : ℕ). x + 1) (i .counted)
-        ; inside = q .0
-        ; same = (let j : 65 - (n + 1) ≡ 64 - n = omega arith in rw (w, rw (part-is s at) at y, rw (part-is s at) at z, j, ← drop-drop 4 at s) (sym one ∙ opened))
-        }
+      record {
+        few = omega arith;
+        counted = ap (λ (x : Config). x .slots) w ∙ ap (λ (x : ℕ). x + 1) (i .counted);
+        inside = q .0;
+        same = (let j : 65 - (n + 1) ≡ 64 - n = omega arith in rw (w, rw (part-is s at) at y, rw (part-is s at) at z, j, ← drop-drop 4 at s) (sym one ∙ opened));
+      }
 
 pub slots-none : {s : List ℕ} {from : ℕ} {vms c : Config} {at n : ℕ} {r : Reading} → Slots s from vms c at n → 65 ≤ n → r ≡ refused 26 at → r ≡ readSlots 65 (drop from s) from vms
 unfolding readSlots
@@ -168,12 +169,12 @@ unfolding readEnd
 end-unserved bs at c b r h e f z = rw (sym (served-by e h) ∙ f) z
 
 pub vms-begin : (s : List ℕ) (core : Config) → 3 ≤ length s → core .slots ≡ 0 → Vms s core core 3 0
-vms-begin s core h e = record
-    { few = omega arith
-    ; counted = (refl, e)
-    ; inside = h
-    ; same = (let j : core .count - 0 ≡ core .count = omega arith in ap (λ (m : ℕ). readVms m (drop 3 s) 3 core) j)
-    }
+vms-begin s core h e = record {
+  few = omega arith;
+  counted = (refl, e);
+  inside = h;
+  same = (let j : core .count - 0 ≡ core .count = omega arith in ap (λ (m : ℕ). readVms m (drop 3 s) 3 core) j);
+}
 
 -- one turn of the loop over VMs
 module _ {s : List ℕ} {core c : Config} {at k : ℕ} (i : Vms s core c at k) (l : k < core .count) where
@@ -190,12 +191,12 @@ module _ {s : List ℕ} {core c : Config} {at k : ℕ} (i : Vms s core c at k) (
   vm-more {f} {e} {h} {d} x g y z w =
       let one = vms-goes (core .count - (k + 1)) (drop at s) at c (sym (rw (part-is s at) at x) ∙ g) in
       let place : c .count - suc (core .count - (k + 1)) ≡ k = omega (arith, i .counted .0) in
-      record
-        { few = omega arith
-        ; counted = (ap (λ (x : Config). x .count) w ∙ i .counted .0, ap (λ (x : Config). x .slots) w ∙ i .counted .1)
-        ; inside = vm-in x g
-        ; same = rw (w, rw (part-is s at) at y, rw (part-is s at) at z, ← drop-drop 9 at s) (sym (rw place at one) ∙ vms-opened)
-        }
+      record {
+        few = omega arith;
+        counted = (ap (λ (x : Config). x .count) w ∙ i .counted .0, ap (λ (x : Config). x .slots) w ∙ i .counted .1);
+        inside = vm-in x g;
+        same = rw (w, rw (part-is s at) at y, rw (part-is s at) at z, ← drop-drop 9 at s) (sym (rw place at one) ∙ vms-opened);
+      }
 
 pub vms-none : {s : List ℕ} {core c : Config} {at k : ℕ} {r : Reading} → Vms s core c at k → core .count ≤ k → r ≡ readSlots 65 (drop at s) at c
     → r ≡ readVms (core .count) (drop 3 s) 3 core

@@ -21,7 +21,10 @@ pub fn word_at(s: &[u8], i: usize) -> u32
     requires { ⌜ i < 16 ⌝ }
     ensures { λ r. ⌜ r ≡ word (now (s .entry)) i ⌝ }
 {
-    wide32(byte_at(s, i)) + wide32(byte_at(s, i + 1)) * 256 + wide32(byte_at(s, i + 2)) * 65536 + wide32(byte_at(s, i + 3)) * 16777216
+    wide32(byte_at(s, i))
+        + wide32(byte_at(s, i + 1)) * 256
+        + wide32(byte_at(s, i + 2)) * 65536
+        + wide32(byte_at(s, i + 3)) * 16777216
 }
 
 fn wide16(x: u8) -> u16

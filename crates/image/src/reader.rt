@@ -3,7 +3,6 @@ use crate::Reading;
 use crate::bytes;
 use crate::records;
 use config::Config;
-
 ghost use Prim.Native.Nat.{_+_, _<_, _^_, _≤_};
 ghost use lib.ListN.{drop, length};
 ghost use mathlib.Core.Path.{_≡_};

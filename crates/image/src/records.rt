@@ -1,7 +1,6 @@
 // The fault of the record at the front of some bytes, 0 for none: one test after the other, in the order of I9.
 use crate::bytes;
 use config::Config;
-
 ghost use mathlib.Core.Path.{_≡_};
 ghost use Rattle.image.specs.Records.{coreFault, ownerFault, slotFault, vmFault};
 

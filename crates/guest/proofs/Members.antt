@@ -1,0 +1,98 @@
+-- What it is to be in a set of pseudo-interrupts: to join two, to set one and to clear one touch the bits that they name, and no other.
+use Prim.Native.Nat.{suc, zero, ℕ, _%_, _*_, _+_, _-_, _/_, _<_, _^_, _≤_}
+use borrow.Author.Tests.{eqb-true}
+use lib.Bits.{and-le-l, bitOr, or-mod, or-shr}
+use lib.Dec.{eqb}
+use lib.Pow.{pow-add, pow-lt, pow-pos, shl-shr}
+use mathlib.Core.Bool.{Bool, false, true}
+use mathlib.Core.Path.{ap, refl, sym, _∙_, _≡_}
+use native.Mathlib.Decide.{decLt}
+use native.Mathlib.Nat.{div-eq-sub-div, mod-lt, pow-suc}
+use native.Mathlib.Omega.{arith}
+use Rattle.basis.specs.Choice.{either, pick}
+use Rattle.guest.proofs.Laws.{and-in, bit-over, bit-top, or-sets}
+use Rattle.guest.specs.Bits.{bit, clearBit, setBit}
+
+digit-or : (x y : ℕ) → x < 2 → y < 2 → eqb (bitOr x y) 1 ≡ either (eqb x 1) (eqb y 1)
+digit-or zero zero p q = refl
+digit-or zero (suc zero) p q = refl
+digit-or zero (suc (suc y)) p q = absurd (omega arith)
+digit-or (suc zero) zero p q = refl
+digit-or (suc zero) (suc zero) p q = refl
+digit-or (suc zero) (suc (suc y)) p q = absurd (omega arith)
+digit-or (suc (suc x)) y p q = absurd (omega arith)
+
+-- D8: what is in either is in the joined one, and nothing else is
+pub bit-or : (n a b : ℕ) → bit n (bitOr a b) ≡ either (bit n a) (bit n b)
+bit-or n a b =
+    ap (λ x. eqb (x % 2) 1) (or-shr a b n)
+    ∙ ap (λ x. eqb x 1) (or-mod (a / 2 ^ n) (b / 2 ^ n) 1)
+    ∙ digit-or (a / 2 ^ n % 2) (b / 2 ^ n % 2) (mod-lt (a / 2 ^ n) (omega arith)) (mod-lt (b / 2 ^ n) (omega arith))
+
+power-low : (d k : ℕ) → bit k (2 ^ (suc d + k)) ≡ false
+power-low d k =
+    let e : 2 ^ (suc d + k) / 2 ^ k ≡ 2 ^ d * 2 = ap (λ x. x / 2 ^ k) (pow-add 2 (suc d) k) ∙ shl-shr (2 ^ suc d) k ∙ pow-suc 2 d in
+    let z : 2 ^ d * 2 % 2 ≡ 0 = omega arith in
+    rw (e, z)
+
+-- a power has its own number in it alone
+power-same : (n : ℕ) → bit n (2 ^ n) ≡ true
+power-same n = bit-top n (2 ^ n) (omega arith) (pow-lt (omega arith))
+
+power-other : (k n : ℕ) → (k ≡ n → ⊥) → bit k (2 ^ n) ≡ false
+power-other k n h =
+    elim (decLt n k) [
+      | yes l ↦ bit-over n k (2 ^ n) (pow-lt (omega arith)) l
+      | no l ↦ (let e : n ≡ suc (n - k - 1) + k = omega arith in ap (λ x. bit k (2 ^ x)) e ∙ power-low (n - k - 1) k)
+    ]
+
+either-false : (b : Bool) → either b false ≡ b
+either-false true = refl
+either-false false = refl
+
+either-true : (b : Bool) → either b true ≡ true
+either-true true = refl
+either-true false = refl
+
+set-or : (k n x : ℕ) → bit k (setBit n x) ≡ either (bit k x) (bit k (2 ^ n))
+set-or k n x = ap (bit k) (sym (or-sets n x (2 ^ n) refl)) ∙ bit-or k x (2 ^ n)
+
+-- D17, D27: the number that is set is in it
+pub set-same : (n x : ℕ) → bit n (setBit n x) ≡ true
+set-same n x = set-or n n x ∙ ap (either (bit n x)) (power-same n) ∙ either-true (bit n x)
+
+-- .. and the others are as they were
+pub set-other : (k n x : ℕ) → (k ≡ n → ⊥) → bit k (setBit n x) ≡ bit k x
+set-other k n x h = set-or k n x ∙ ap (either (bit k x)) (power-other k n h) ∙ either-false (bit k x)
+
+power-le : (n x : ℕ) → bit n x ≡ true → 2 ^ n ≤ x
+power-le n x e = omega (arith, and-le-l x (2 ^ n), and-in n x e)
+
+less-out : (n x : ℕ) → bit n x ≡ true → bit n (x - 2 ^ n) ≡ false
+less-out n x e =
+    let d : x / 2 ^ n ≡ (x - 2 ^ n) / 2 ^ n + 1 = div-eq-sub-div (pow-pos n) (power-le n x e) in
+    let o : x / 2 ^ n % 2 ≡ 1 = eqb-true (x / 2 ^ n % 2) 1 e in
+    let z : (x - 2 ^ n) / 2 ^ n % 2 ≡ 0 = omega (arith, d, o) in
+    rw z
+
+-- D12: the number that is cleared is out of it
+pub clear-same : (n x : ℕ) → bit n (clearBit n x) ≡ false
+unfolding clearBit
+clear-same n x = go (bit n x) refl
+  where
+    go : (b : Bool) → bit n x ≡ b → bit n (pick b (x - 2 ^ n) x) ≡ false
+    go true e = less-out n x e
+    go false e = e
+
+less-set : (n x : ℕ) → bit n x ≡ true → setBit n (x - 2 ^ n) ≡ x
+unfolding setBit
+less-set n x e = rw (less-out n x e) (omega (arith, power-le n x e))
+
+-- .. and the others are as they were
+pub clear-other : (k n x : ℕ) → (k ≡ n → ⊥) → bit k (clearBit n x) ≡ bit k x
+unfolding clearBit
+clear-other k n x h = go (bit n x) refl
+  where
+    go : (b : Bool) → bit n x ≡ b → bit k (pick b (x - 2 ^ n) x) ≡ bit k x
+    go true e = sym (set-other k n (x - 2 ^ n) h) ∙ ap (bit k) (less-set n x e)
+    go false e = refl

@@ -1,0 +1,190 @@
+//! What the cases of a comparison reached, and which of the points they have to reach are missing.
+
+use crate::core::Core;
+use crate::coverage_marks::{event_marks, image_marks, log_marks, Mark};
+use crate::event::{Answer, Event};
+use crate::flaw::Flaw;
+use crate::frames::Case;
+use crate::image_read::read_image;
+use crate::limits::MAX_LOG_BYTES;
+use crate::log_codec::{read_record, Record};
+
+/// The event kinds by name, in the order of their record kinds.
+pub const KIND_NAMES: [&str; 9] =
+    ["start", "tick", "stop", "shutdown", "restart", "extra", "call", "write", "fault"];
+
+/// Every refusal that each event kind can get on a run from fresh.
+const REFUSALS_BY_KIND: [&[u8]; 9] = [
+    &[0, 7],
+    &[0, 2],
+    &[0, 2, 3, 4],
+    &[0, 2, 3, 4],
+    &[0, 2, 3],
+    &[0, 2, 3, 4, 6],
+    &[0, 2, 5],
+    &[0, 2, 5, 8],
+    &[0, 2, 5, 9],
+];
+
+/// Where a number can be delivered.
+const DELIVERY_NAMES: [&str; 3] = ["tick", "sync", "return"];
+
+#[derive(Clone, Debug)]
+pub struct Coverage {
+    pub events: u64,
+    refusals: [[u64; 10]; 9],
+    image_faults: [u64; 9],
+    images_accepted: u64,
+    cuts: u64,
+    longs: u64,
+    services: [u64; 6],
+    notices: [u64; 4],
+    error_codes: [u64; 6],
+    results: [u64; 2],
+    delivered: [[u64; 32]; 3],
+    fields_written: [u64; 10],
+    marks: [u64; Mark::COUNT],
+}
+
+impl Default for Coverage {
+    fn default() -> Coverage {
+        Coverage {
+            events: 0,
+            refusals: [[0; 10]; 9],
+            image_faults: [0; 9],
+            images_accepted: 0,
+            cuts: 0,
+            longs: 0,
+            services: [0; 6],
+            notices: [0; 4],
+            error_codes: [0; 6],
+            results: [0; 2],
+            delivered: [[0; 32]; 3],
+            fields_written: [0; 10],
+            marks: [0; Mark::COUNT],
+        }
+    }
+}
+
+impl Coverage {
+    /// Counts what the run of a case reaches.
+    pub fn observe(&mut self, case: &Case) {
+        let read = read_image(&case.image, Flaw::None);
+        image_marks(&case.image, &read, &mut |mark| self.marks[mark as usize] += 1);
+        match read {
+            Err(fault) => self.image_faults[usize::from(fault.number) - 20] += 1,
+            Ok(config) => {
+                self.images_accepted += 1;
+                self.observe_log(Core::fresh(config, Flaw::None), &case.log);
+            }
+        }
+    }
+
+    fn observe_log(&mut self, mut core: Core, log: &[u8]) {
+        log_marks(log, &mut |mark| self.marks[mark as usize] += 1);
+        if log.len() > MAX_LOG_BYTES {
+            self.longs += 1;
+            return;
+        }
+        let mut at = 0;
+        while let Record::Event(event, next) = read_record(log, at) {
+            let before = core.clone();
+            let answer = core.apply(event);
+            self.observe_event(event, &answer);
+            event_marks(&before, event, &answer, &core, &mut |mark| self.marks[mark as usize] += 1);
+            at = next;
+        }
+        if at < log.len() {
+            self.cuts += 1;
+            let known = crate::log_codec::event_body_length(log[at]).is_some();
+            let mark = if known { Mark::CutInBody } else { Mark::CutAtKind };
+            self.marks[mark as usize] += 1;
+        }
+    }
+
+    fn observe_event(&mut self, event: Event, answer: &Answer) {
+        self.events += 1;
+        self.refusals[kind_index(event)][usize::from(answer.refusal)] += 1;
+        if answer.refusal != 0 {
+            return;
+        }
+        self.notices[usize::from(answer.notice.number)] += 1;
+        if answer.notice.number == 3 {
+            self.error_codes[usize::from(answer.notice.code)] += 1;
+        }
+        self.results[usize::from(answer.result)] += 1;
+        let moment = match event {
+            Event::Call { service, .. } => {
+                self.services[usize::from(service.min(5))] += 1;
+                1 + usize::from(service == 1)
+            }
+            _ => 0,
+        };
+        if let Some(number) = answer.delivered {
+            self.delivered[moment][usize::from(number)] += 1;
+        }
+        if let Event::Write { offset, .. } = event {
+            self.fields_written[usize::from(offset / 4)] += 1;
+        }
+    }
+
+    /// Every point that has to be reached, by name, and how often it was.
+    pub fn points(&self) -> Vec<(String, u64)> {
+        let mut points = self.run_points();
+        for (kind, refusals) in REFUSALS_BY_KIND.iter().enumerate() {
+            for refusal in *refusals {
+                let count = self.refusals[kind][usize::from(*refusal)];
+                points.push((format!("{} refusal {refusal}", KIND_NAMES[kind]), count));
+            }
+        }
+        for (moment, name) in DELIVERY_NAMES.iter().enumerate() {
+            for (number, count) in self.delivered[moment].iter().enumerate() {
+                points.push((format!("delivered {number} at {name}"), *count));
+            }
+        }
+        for mark in Mark::ALL {
+            points.push((String::from(mark.name()), self.marks[mark as usize]));
+        }
+        points
+    }
+
+    fn run_points(&self) -> Vec<(String, u64)> {
+        let mut points = vec![
+            (String::from("image accepted"), self.images_accepted),
+            (String::from("log cut (refusal 10)"), self.cuts),
+            (String::from("log too long"), self.longs),
+        ];
+        let mut add = |name: &str, first: usize, counts: &[u64]| {
+            for (index, count) in counts.iter().enumerate() {
+                points.push((format!("{name} {}", first + index), *count));
+            }
+        };
+        add("image fault", 20, &self.image_faults);
+        add("service", 0, &self.services[..5]);
+        add("unknown service, over", 4, &self.services[5..]);
+        add("notice", 0, &self.notices);
+        add("error code", 1, &self.error_codes[1..]);
+        add("result", 0, &self.results);
+        add("written field", 0, &self.fields_written);
+        points
+    }
+
+    /// The points that were never reached.
+    pub fn missing(&self) -> Vec<String> {
+        self.points().into_iter().filter(|(_, count)| *count == 0).map(|(name, _)| name).collect()
+    }
+}
+
+fn kind_index(event: Event) -> usize {
+    match event {
+        Event::Start => 0,
+        Event::Tick { .. } => 1,
+        Event::Stop { .. } => 2,
+        Event::Shutdown { .. } => 3,
+        Event::Restart { .. } => 4,
+        Event::Extra { .. } => 5,
+        Event::Call { .. } => 6,
+        Event::Write { .. } => 7,
+        Event::Fault { .. } => 8,
+    }
+}

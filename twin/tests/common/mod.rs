@@ -1,0 +1,85 @@
+//! What several tests share: the worked example and small configurations.
+#![allow(dead_code)]
+
+use twin::config::{Config, Slot, VmPlace, SPARE};
+use twin::core::Core;
+use twin::event::Event;
+use twin::flaw::Flaw;
+use twin::frames::Case;
+use twin::image_write::image_bytes;
+use twin::log_codec::log_of;
+
+/// Two VMs, queue of one; VM 0 for two ticks, VM 1 for one, a spare tick.
+pub fn worked_config() -> Config {
+    let mut config = Config::zero();
+    (config.vm_count, config.queue_size, config.slot_count) = (2, 1, 3);
+    config.vms[0] = VmPlace { entry: 0x1000, handler: 0x1004 };
+    config.vms[1] = VmPlace { entry: 0x2000, handler: 0x2004 };
+    config.slots[0] = Slot { owner: 0, ticks: 2 };
+    config.slots[1] = Slot { owner: 1, ticks: 1 };
+    config.slots[2] = Slot { owner: SPARE, ticks: 1 };
+    config
+}
+
+pub fn call(service: u8, argument: u32, next: u32) -> Event {
+    Event::Call { service, argument, next }
+}
+
+pub fn write(offset: u8, value: u32) -> Event {
+    Event::Write { offset, value }
+}
+
+pub fn tick(address: u32) -> Event {
+    Event::Tick { address }
+}
+
+pub fn worked_events() -> Vec<Event> {
+    vec![
+        Event::Start,
+        tick(0),
+        write(8, 0x88),
+        write(32, 0x80),
+        tick(0x1010),
+        call(1, 0, 0x1040),
+        call(4, 0, 0x1014),
+        call(4, 0, 0x1018),
+        tick(0x1020),
+        tick(0x2008),
+        Event::Stop { vm: 2 },
+        Event::Stop { vm: 0 },
+        tick(0),
+    ]
+}
+
+pub fn worked_case() -> Case {
+    Case { image: image_bytes(&worked_config(), Flaw::None), log: log_of(&worked_events()) }
+}
+
+pub fn worked_lines() -> &'static str {
+    "1 0 - - - 0 0\n\
+     2 0 0 00001000 - 0 0\n\
+     3 0 0 00001000 - 0 0\n\
+     4 0 0 00001000 - 0 0\n\
+     5 0 0 00001004 7 0 0\n\
+     6 0 0 00001010 - 0 0\n\
+     7 0 0 00001014 - 0 0\n\
+     8 0 0 00001018 - 0 1\n\
+     9 0 1 00002000 - 0 0\n\
+     10 0 0 00001004 7 0 0\n\
+     11 3 0 00001004 - 0 0\n\
+     12 0 - - - 1 0\n\
+     13 0 - - - 0 0\n"
+}
+
+/// A core of the worked configuration after some events, all of which must be done.
+pub fn core_with(events: &[Event]) -> Core {
+    core_of(worked_config(), events)
+}
+
+pub fn core_of(config: Config, events: &[Event]) -> Core {
+    let mut core = Core::fresh(config, Flaw::None);
+    for event in events {
+        assert_eq!(core.apply(*event).refusal, 0, "{event:?}");
+    }
+    core
+}

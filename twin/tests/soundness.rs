@@ -1,0 +1,93 @@
+//! States that no event leads to: each clause of soundness broken by itself gets refusal 1.
+
+mod common;
+
+use common::{core_with, tick, worked_config};
+use twin::core::Core;
+use twin::event::{Answer, Event};
+use twin::flaw::Flaw;
+use twin::state::{Standing, Vm};
+
+/// What is broken, and how.
+type Change = (&'static str, fn(&mut Core));
+
+fn started() -> Core {
+    core_with(&[Event::Start, tick(0), Event::Extra { vm: 1 }])
+}
+
+fn fresh() -> Core {
+    Core::fresh(worked_config(), Flaw::None)
+}
+
+fn assert_refused(mut core: Core, what: &str) {
+    assert!(!core.sound(), "{what}");
+    let before = core.clone();
+    for event in [Event::Start, tick(5), Event::Restart { vm: 0 }, Event::Write { offset: 8, value: 1 }] {
+        assert_eq!(core.apply(event), Answer { refusal: 1, ..Answer::default() }, "{what}");
+    }
+    assert_eq!(core, before, "{what}");
+}
+
+#[test]
+fn broken_states_after_start() {
+    let changes: [Change; 14] = [
+        ("the configuration is not legal", |core| core.config.slots[0].ticks = 1_001),
+        ("a record past the count is not fresh", |core| core.state.vms[2].age = 1),
+        ("the last record is ready", |core| core.state.vms[7].standing = Standing::Ready),
+        ("more entries than the queue size", |core| core.state.queue.push(0)),
+        ("an entry names a VM that rests", |core| core.state.vms[1].standing = Standing::Stopped),
+        ("an entry names no record", |core| core.state.queue.places[0] = 200),
+        ("a place behind the entries is not zero", |core| core.state.queue.places[15] = 1),
+        ("it runs before the first tick", |core| core.state.ticked = false),
+        ("the slot is not one of the table", |core| core.state.slot = 3),
+        ("no tick is left", |core| core.state.left = 0),
+        ("more ticks are left than the slot has", |core| core.state.left = 3),
+        ("the running VM rests", |core| core.state.vms[0].standing = Standing::InError),
+        ("the slot is another's", |core| core.state.running = Some(1)),
+        ("no such VM runs", |core| core.state.running = Some(8)),
+    ];
+    for (what, change) in changes {
+        let mut core = started();
+        assert!(core.sound());
+        change(&mut core);
+        assert_refused(core, what);
+    }
+}
+
+#[test]
+fn broken_states_before_start() {
+    let changes: [Change; 4] = [
+        ("a VM is ready", |core| core.state.vms[0] = Vm::ready_at(0x1000)),
+        ("something is queued", |core| core.state.queue.push(0)),
+        ("something runs", |core| core.state.running = Some(0)),
+        ("it has ticked", |core| (core.state.ticked, core.state.left) = (true, 1)),
+    ];
+    for (what, change) in changes {
+        let mut core = fresh();
+        assert!(core.sound());
+        change(&mut core);
+        assert_refused(core, what);
+    }
+}
+
+#[test]
+fn states_that_look_odd_and_are_sound() {
+    let changes: [fn(&mut Core); 3] = [
+        |core| core.state.left = 999,
+        |core| core.state.slot = 77,
+        |core| core.state.vms[1].standing = Standing::Stopped,
+    ];
+    for change in changes {
+        let mut core = fresh();
+        change(&mut core);
+        assert!(core.sound());
+        assert_eq!(core.apply(Event::Start).refusal, 0);
+        assert_eq!(core.apply(tick(0)).running, Some(0));
+        assert_eq!((core.state.slot, core.state.left), (0, 2));
+    }
+    let mut core = core_with(&[Event::Start]);
+    core.state.vms[1] = Vm::default();
+    assert_eq!(core.apply(Event::Stop { vm: 1 }).refusal, 4);
+    assert_eq!(core.apply(Event::Restart { vm: 1 }).refusal, 0);
+    assert_eq!(core.state.vms[1], Vm::ready_at(0x2000));
+}

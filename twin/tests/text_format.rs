@@ -1,0 +1,101 @@
+//! The readable text: to bytes and back, for good and for bad bytes, and its error messages.
+
+mod common;
+
+use common::worked_case;
+use twin::frames::Case;
+use twin::generate_case::CaseMaker;
+use twin::text_parse::case_of;
+use twin::text_print::text_of;
+
+const WORKED: &str = "\
+core vms 2 queue 1
+vm entry 0x1000 handler 0x1004
+vm entry 0x2000 handler 0x2004
+slot vm 0 ticks 2
+slot vm 1 ticks 1
+slot spare ticks 1
+end
+
+log
+start
+tick 0x0
+write offset 8 value 0x88
+write offset 32 value 0x80
+tick 0x1010
+call service 1 argument 0 next 0x1040
+call service 4 argument 0 next 0x1014
+call service 4 argument 0 next 0x1018
+tick 0x1020
+tick 0x2008
+stop 2
+stop 0
+tick 0x0
+";
+
+fn message(text: &str) -> (usize, String) {
+    let error = case_of(text).expect_err("this text is wrong");
+    (error.line, error.message)
+}
+
+#[test]
+fn the_worked_example_both_ways() {
+    assert_eq!(text_of(&worked_case()), WORKED);
+    assert_eq!(case_of(WORKED), Ok(worked_case()));
+}
+
+#[test]
+fn comments_spaces_and_both_kinds_of_numbers() {
+    let text = "  # a comment\n\n core  vms 0x2 queue 1 # more\r\nraw 0a FF\nlog # here\n\ttick 4112\nraw";
+    let case = case_of(text).expect("a good text");
+    assert_eq!(case.image, [1, 2, 1, 0x0a, 0xff]);
+    assert_eq!(case.log, [0x11, 0x10, 0x10, 0, 0]);
+}
+
+#[test]
+fn any_bytes_come_back() {
+    let maker = CaseMaker::new(21);
+    for number in 0..1_500 {
+        let case = maker.case(number);
+        assert_eq!(case_of(&text_of(&case)), Ok(case), "case {number}");
+    }
+    for byte in 0..=255 {
+        let case = Case { image: vec![byte, 255, 0], log: vec![byte; 7] };
+        assert_eq!(case_of(&text_of(&case)), Ok(case));
+    }
+    assert_eq!(text_of(&Case::default()), "\nlog\n");
+}
+
+#[test]
+fn bytes_that_are_no_record_stand_raw() {
+    let case = Case { image: vec![4, 9, 4], log: vec![0x10, 0x11, 1, 2] };
+    assert_eq!(text_of(&case), "end\nraw 09 04\n\nlog\nstart\nraw 11 01 02\n");
+}
+
+#[test]
+fn errors_name_the_line_and_the_matter() {
+    let wrong = [
+        ("end\nstart\n", 2, "'start' is not known here; expected core, vm, slot, end, raw or log"),
+        ("log\n\nlog", 3, "'log' is not known here"),
+        ("core vms 2", 1, "the line ends where 'queue' should stand"),
+        ("core queue 2", 1, "'queue' stands where 'vms' should"),
+        ("core vms two queue 1", 1, "'two' after 'vms' is not a number"),
+        ("core vms 256 queue 1", 1, "256 after 'vms' does not fit in 8 bits"),
+        ("slot vm 0 ticks 65536", 1, "65536 after 'ticks' does not fit in 16 bits"),
+        ("slot 0 ticks 1", 1, "'0' is not known here; expected 'vm NUMBER' or 'spare'"),
+        ("slot", 1, "the line ends where 'vm NUMBER' or 'spare' should stand"),
+        ("end end", 1, "'end' stands behind the end of the record"),
+        ("log\ntick", 2, "the number after 'tick' is missing"),
+        ("log\ntick 0x", 2, "'0x' after 'tick' is not a number"),
+        ("log\ntick -1", 2, "'-1' after 'tick' is not a number"),
+        ("log\ntick 0x100000000", 2, "0x100000000 after 'tick' does not fit in 32 bits"),
+        ("log\ntick 99999999999999999999", 2, "does not fit in 32 bits"),
+        ("raw 1", 1, "'1' is not a byte of two hexadecimal digits"),
+        ("raw +1", 1, "'+1' is not a byte of two hexadecimal digits"),
+    ];
+    for (text, line, words) in wrong {
+        let (found, message) = message(text);
+        assert_eq!(found, line, "{text}: {message}");
+        assert!(message.contains(words), "{text}: {message}");
+    }
+}
