@@ -13,3 +13,7 @@ both false b = false
 abbrev pub either : Bool → Bool → Bool
 either true b = true
 either false b = b
+
+-- n unless the test holds; then what follows
+abbrev pub unless : {A : Type 0} → Bool → A → A → A
+unless holds n next = pick holds next n

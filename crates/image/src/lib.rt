@@ -1,5 +1,6 @@
 // The configuration's image: its reader (I7 to I10) and its writer (I11, I12).
 mod bytes;
+mod ranges;
 mod reader;
 mod records;
 mod writer;
