@@ -1,4 +1,8 @@
 // The core: its state, whether it is sound, and every event as a method that takes the state by value.
+mod changes;
+mod rows;
+mod sound;
+
 use config::Config;
 use guest::Vm;
 use queue::Queue;
@@ -58,4 +62,15 @@ impl Answer {
     pub const NOBODY: u8 = 255;
 
     pub const NOTHING: u8 = 255;
+}
+
+// What an event makes of one VM, of who runs and of the queue, with the rest of its answer.
+pub struct Change {
+    pub place: u8,
+    pub vm: Vm,
+    pub running: u8,
+    pub queue: Queue,
+    pub delivered: u8,
+    pub notice: Notice,
+    pub result: u8,
 }

@@ -4,3 +4,4 @@ pub mod Reader
 pub mod Writer
 pub mod Ranges
 pub mod Trips
+pub mod Vectors

@@ -1,0 +1,16 @@
+-- The rows in their order.
+use Rattle.basis.proofs.Laws.{ways}
+use Rattle.core.proofs.rows.of_running.Statement.{statement}
+use Rattle.core.proofs.rows.of_running.Tie as tie
+
+returns : tie.Need-returns
+returns c = search ways
+
+returns-2 : tie.Need-returns-2
+returns-2 c = search ways
+
+returns-3 : tie.Need-returns-3
+returns-3 c = search ways
+
+pub of-running-spec : {M : Type 1} → statement M
+of-running-spec = tie.close (tie.spec returns returns-2 returns-3)

@@ -1,0 +1,113 @@
+// The changes of one VM that events share, over small values.
+use crate::Answer;
+use crate::Change;
+use crate::Notice;
+use guest::Delivery;
+use guest::Vm;
+use queue::Queue;
+
+ghost use mathlib.Core.Path.{_≡_};
+ghost use Rattle.core.specs.Changes.{endingFrom, errorOf, noticeWith, queueWithout, renewedFrom, runningWithout, turnedAwayFrom};
+ghost use Rattle.core.specs.State.{nobody};
+ghost use Rattle.guest.specs.Record.{startedAt};
+ghost use Rattle.queue.specs.Entries.{pushed};
+ghost use Rattle.vms.specs.Tick.{numberOf};
+
+pub fn notice(kind: u8, vm: u8, code: u8, detail: u32) -> Notice
+    ensures { λ r. ⌜ r ≡ noticeWith kind vm code detail ⌝ }
+{
+    Notice {
+        kind: kind,
+        vm: vm,
+        code: code,
+        detail: detail,
+    }
+}
+
+// The record changes, and nothing else.
+pub fn renewed(v: u8, vm: Vm, running: u8, queue: Queue, delivered: u8) -> Change
+    ensures { λ r. ⌜ r ≡ renewedFrom running queue v vm delivered ⌝ }
+{
+    let none = notice(0, 0, 0, 0);
+    Change {
+        place: v,
+        vm: vm,
+        running: running,
+        queue: queue,
+        delivered: delivered,
+        notice: none,
+        result: 0,
+    }
+}
+
+// D11, D12 within a Call.
+pub fn delivering(v: u8, d: Delivery, running: u8, queue: Queue) -> Change
+    ensures { λ r. ⌜ r ≡ renewedFrom running queue v (d .vm) (numberOf (d .number)) ⌝ }
+{
+    let vm = d.vm;
+    let number = d.number;
+    renewed(v, vm, running, queue, vms::number_of(number))
+}
+
+// D14, D15: the VM ends, its entries leave the queue, and where it was running nobody runs.
+pub fn ending(v: u8, vm: Vm, standing: u8, running: u8, queue: Queue, told: Notice) -> Change
+    ensures { λ r. ⌜ r ≡ endingFrom running queue v vm standing told ⌝ }
+{
+    let ended = vm.ended(standing);
+    let rest = queue.without(v);
+    Change {
+        place: v,
+        vm: ended,
+        running: without(running, v),
+        queue: rest,
+        delivered: Answer::NOTHING,
+        notice: told,
+        result: 0,
+    }
+}
+
+// D23.
+pub fn failing(v: u8, vm: Vm, running: u8, queue: Queue, code: u8, detail: u32) -> Change
+    ensures { λ r. ⌜ r ≡ endingFrom running queue v vm 4 (errorOf v code detail) ⌝ }
+{
+    let told = notice(3, v, code, detail);
+    ending(v, vm, Vm::ERROR, running, queue, told)
+}
+
+// D18.
+pub fn restarting(v: u8, entry: u32, running: u8, queue: Queue) -> Change
+    ensures { λ r. ⌜ r ≡ renewedFrom running (queueWithout queue v) v (startedAt entry) nobody ⌝ }
+{
+    let rest = queue.without(v);
+    renewed(v, Vm::started(entry), running, rest, Answer::NOTHING)
+}
+
+// D20, D29: one entry more.
+pub fn queueing(v: u8, vm: Vm, running: u8, queue: Queue) -> Change
+    ensures { λ r. ⌜ r ≡ renewedFrom running (pushed v queue) v vm nobody ⌝ }
+{
+    let longer = queue.pushed(v);
+    renewed(v, vm, running, longer, Answer::NOTHING)
+}
+
+// D29: the queue is full.
+pub fn turned_away(v: u8, vm: Vm, running: u8, queue: Queue) -> Change
+    ensures { λ r. ⌜ r ≡ turnedAwayFrom running queue v vm ⌝ }
+{
+    let none = notice(0, 0, 0, 0);
+    Change {
+        place: v,
+        vm: vm,
+        running: running,
+        queue: queue,
+        delivered: Answer::NOTHING,
+        notice: none,
+        result: 1,
+    }
+}
+
+fn without(running: u8, v: u8) -> u8
+    ensures { λ r. ⌜ r ≡ runningWithout running v ⌝ }
+{
+    if running == v { Answer::NOBODY } else { running }
+}
