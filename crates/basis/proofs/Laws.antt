@@ -56,6 +56,10 @@ pub both-of : (a b : Bool) → a ≡ true → b ≡ true → both a b ≡ true
 both-of true b x y = y
 both-of false b x y = false-true x
 
+pub both-assoc : (a b c : Bool) → both (both a b) c ≡ both a (both b c)
+both-assoc true b c = refl
+both-assoc false b c = refl
+
 pub either-is : (a b : Bool) → either a b ≡ true → (a ≡ true) ⊎ (b ≡ true)
 either-is true b e = inl refl
 either-is false b e = inr e
@@ -135,6 +139,12 @@ module _ (p : ℕ → Bool) where
       go : (b : Bool) → every p n ≡ b → false ≡ b
       go true f = false-true (sym e ∙ every-is n f k h)
       go false f = refl
+
+-- two tests that answer alike
+pub every-same : (p q : ℕ → Bool) → ((k : ℕ) → p k ≡ q k) → (n : ℕ) → every p n ≡ every q n
+unfolding every
+every-same p q h zero = refl
+every-same p q h (suc n) = rw (h n, every-same p q h n)
 
 -- a loop that changes one value
 module _ {A : Type 0} (f : ℕ → A → A) (a : A) where

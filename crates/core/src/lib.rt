@@ -8,6 +8,12 @@ use guest::Vm;
 use queue::Queue;
 use table::Clock;
 
+ghost use mathlib.Core.Path.{_≡_};
+ghost use Rattle.core.specs.Changes.{changedBy};
+ghost use Rattle.core.specs.Refusals.{refused};
+ghost use Rattle.core.specs.Sound.{sound};
+ghost use Rattle.core.specs.State.{freshCore};
+
 // The whole state (T1). `running` is a VM's number, or NOBODY.
 #[repr(C)]
 pub struct Core {
@@ -73,4 +79,113 @@ pub struct Change {
     pub delivered: u8,
     pub notice: Notice,
     pub result: u8,
+}
+
+impl Core {
+    // The fresh core of a configuration (T6). Built from an illegal one, it is not sound (T7).
+    pub fn fresh(config: Config) -> Core
+        ensures { λ r. ⌜ r ≡ freshCore config ⌝ }
+    {
+        let none = Vm::fresh();
+        let queue = Queue::empty();
+        let clock = Clock::fresh();
+        Core {
+            config: config,
+            clock: clock,
+            running: Answer::NOBODY,
+            queue: queue,
+            vms: [none; 8],
+        }
+    }
+
+    // Whether W1 to W12 hold.
+    pub fn sound(self) -> bool
+        ensures { λ r. ⌜ r ≡ sound self ⌝ }
+    {
+        let config = self.config;
+        if config.legal() {
+            let durations = config.durations;
+            let owners = config.owners;
+            let vms = self.vms;
+            let standings = vms::standings(vms);
+            let clock = self.clock;
+            let queue = self.queue;
+            let running = self.running;
+            let rest = vms::rest_fresh(vms, config.count);
+            let queued = sound::queue_sound(queue, config.room, &standings);
+            let begun = sound::start_sound(clock, running == Answer::NOBODY, queue.len, &standings);
+            let duration = table::duration_at(clock.slot, &durations);
+            let placed = sound::clock_sound(clock, config.slots, duration);
+            let owner = table::owner_at(clock.slot, &owners);
+            let runs = sound::runner_sound(running, owner, sound::is_ready(&standings, running));
+            let known = sound::numbers_known(clock, &standings);
+            sound::all(rest, queued, begun, placed, runs, known)
+        } else {
+            false
+        }
+    }
+
+    // A refusal: the state as it was (R2, R3).
+    fn refused(self, n: u8) -> Stepped
+        ensures { λ r. ⌜ r ≡ refused self n ⌝ }
+    {
+        let none = changes::notice(0, 0, 0, 0);
+        if n == 1 {
+            return Stepped {
+                core: self,
+                answer: Answer {
+                    refusal: n,
+                    running: Answer::NOBODY,
+                    address: 0,
+                    delivered: Answer::NOTHING,
+                    notice: none,
+                    result: 0,
+                },
+            };
+        }
+        let vms = self.vms;
+        let vm = vms::vm_at(vms, self.running);
+        Stepped {
+            core: self,
+            answer: Answer {
+                refusal: n,
+                running: self.running,
+                address: vm.address,
+                delivered: Answer::NOTHING,
+                notice: none,
+                result: 0,
+            },
+        }
+    }
+
+    // One VM's record replaced, with who runs and the queue (K2).
+    fn changed(self, d: Change) -> Stepped
+        ensures { λ r. ⌜ r ≡ changedBy self d ⌝ }
+    {
+        let config = self.config;
+        let clock = self.clock;
+        let queue = d.queue;
+        let vm = d.vm;
+        let notice = d.notice;
+        let old = self.vms;
+        let vms = vms::with_vm(old, d.place, vm);
+        let runs = vms::vm_at(vms, d.running);
+        Stepped {
+            core: Core {
+                config: config,
+                clock: clock,
+                running: d.running,
+                queue: queue,
+                vms: vms,
+            },
+            answer: Answer {
+                refusal: 0,
+                running: d.running,
+                address: runs.address,
+                delivered: d.delivered,
+                notice: notice,
+                result: d.result,
+            },
+        }
+    }
 }

@@ -143,3 +143,10 @@ fn standings_known(standings: &[u8; 8]) -> bool
     }
     ok
 }
+
+// All of them.
+pub fn all(a: bool, b: bool, c: bool, d: bool, e: bool, f: bool) -> bool
+    ensures { λ r. ⌜ r ≡ both a (both b (both c (both d (both e f)))) ⌝ }
+{
+    both(a, both(b, both(c, both(d, both(e, f)))))
+}

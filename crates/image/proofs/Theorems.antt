@@ -2,7 +2,7 @@
 use Prim.Native.Nat.{ℕ, _≤_}
 use borrow.Author.Tests.{le-ltb}
 use lib.Dec.{ltb}
-use lib.ListN.{drop, length}
+use lib.ListN.{drop, length, take}
 use mathlib.Core.Bool.{Bool, false, true}
 use mathlib.Core.List.{List, _++_}
 use mathlib.Core.Path.{ap, refl, sym, _∙_, _≡_}
@@ -13,6 +13,7 @@ use Rattle.config.specs.Sizes.{legal}
 use Rattle.config.specs.declared.Config.{Config}
 use Rattle.image.proofs.Answers.{answer-accepted, answer-refused}
 use Rattle.image.proofs.Back.{back-bytes, back-legal, back-typed}
+use Rattle.image.proofs.Front.{image-front}
 use Rattle.image.proofs.Puts.{image-length}
 use Rattle.image.proofs.Trip.{trip}
 use Rattle.image.specs.Numbers.{Bytes}
@@ -67,6 +68,10 @@ image-short c e = let l = legal-is c e in omega (arith, image-length c, l .vms .
 
 pub read-short : (bs : List ℕ) (c : Config) → Bytes bs → readImage bs ≡ accepted c → length bs ≤ 332
 read-short bs c y e = rw (← read-image bs c y e) (image-short c (read-legal bs c y e))
+
+-- I14: no answer depends on more than the first 335 bytes
+pub read-front : (bs : List ℕ) (n : ℕ) → 335 ≤ n → readImage (take n bs) ≡ readImage bs
+read-front bs n h = image-front n bs h
 
 -- a buffer of 332 bytes takes the image of every legal configuration
 pub write-fits : (c : Config) (n : ℕ) → legal c ≡ true → 332 ≤ n → answerFor c n ≡ record { refusal = 0; size = length (image c) }

@@ -1,0 +1,33 @@
+-- Five joints.
+use borrow.Author.Needs.{needs}
+use Rattle.core.proofs.sound.all.Statement.{statement}
+use Rattle.core.proofs.sound.all.Tie as tie
+
+both-requires : tie.Need-both-requires
+both-requires c κs = search needs
+
+both-requires-2 : tie.Need-both-requires-2
+both-requires-2 c κs = search needs
+
+both-requires-3 : tie.Need-both-requires-3
+both-requires-3 c κs = search needs
+
+both-requires-4 : tie.Need-both-requires-4
+both-requires-4 c κs = search needs
+
+both-requires-5 : tie.Need-both-requires-5
+both-requires-5 c κs = search needs
+
+returns : tie.Need-returns
+returns c = rw (c .both5 .ensures, c .before .both4 .ensures, c .before .before .both3 .ensures, c .before .before .before .both2 .ensures, c .before .before .before .before .both .ensures)
+
+pub all-spec : {M : Type 1} → statement M
+all-spec =
+    tie.close
+    (tie.spec
+    both-requires
+    both-requires-2
+    both-requires-3
+    both-requires-4
+    both-requires-5
+    returns)
