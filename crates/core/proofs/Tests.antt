@@ -71,7 +71,7 @@ pub sound-law : (c : Core) (s : List ℕ) (t rest queued begun placed ready runs
 unfolding sound queuedReady noneReady standingsKnown noneIn
 sound-law c s t rest queued begun placed ready runs known r duration owner ht hy hs h1 h2 h3 hd h4 ho hr h5 h6 h =
     let q : every (λ k. readyIn (standingsOf (c .vms)) (getD (c .queue .items) k 0)) (c .queue .len) ≡ queuedReady c =
-      every-same _ _ (λ k. sym (ready-is (c .vms) (getD (c .queue .items) k 0))) (c .queue .len) in
+    every-same _ _ (λ k. sym (ready-is (c .vms) (getD (c .queue .items) k 0))) (c .queue .len) in
     let n : every (λ k. not (readyIn (standingsOf (c .vms)) k)) 8 ≡ noneReady c = every-same _ _ (λ k. ap not (sym (ready-is (c .vms) k))) 8 in
     let m : every (λ j. leb (getD (standingsOf (c .vms)) j 0) 4) 8 ≡ standingsKnown c = every-same _ _ (λ k. ap (λ (x : ℕ). leb x 4) (standing-is (c .vms) k)) 8 in
     h ∙ rw (h1, h2, h3, h4, h5, h6, hr, hd, ho, hs, q, n, m, ← ready-is (c .vms) (c .running), sym ht ∙ hy)

@@ -66,25 +66,28 @@ abbrev pub ending : Core → ℕ → Vm → ℕ → Notice → Change
 ending c = endingFrom (c .running) (c .queue)
 
 -- D23: the VM ends in error
+abbrev pub failingFrom : ℕ → Queue → ℕ → Vm → ℕ → ℕ → Change
+failingFrom running queue v vm code detail = endingFrom running queue v vm 4 (errorOf v code detail)
+
 abbrev pub failing : Core → ℕ → Vm → ℕ → ℕ → Change
-failing c v vm code detail = ending c v vm 4 (errorOf v code detail)
+failing c = failingFrom (c .running) (c .queue)
 
 -- D18, D19
 abbrev pub restarting : Core → ℕ → Change
 restarting c v = renewedFrom (c .running) (queueWithout (c .queue) v) v (startedAt (entryAt (c .config) v)) nobody
 
 -- D20: one entry of v joins the queue
+abbrev pub queueingFrom : ℕ → Queue → ℕ → Vm → Change
+queueingFrom running queue v vm = renewedFrom running (pushed v queue) v vm nobody
+
 abbrev pub queueing : Core → ℕ → Vm → Change
-queueing c v vm = renewedFrom (c .running) (pushed v (c .queue)) v vm nobody
+queueing c = queueingFrom (c .running) (c .queue)
 
 -- D29: the queue is full, and a Call is told so
 abbrev pub turnedAwayFrom : ℕ → Queue → ℕ → Vm → Change
 turnedAwayFrom running queue v vm =
     record { place = v; vm = vm; running = running; queue = queue; delivered = nobody; notice = noNotice; result = 1 }
 
-abbrev pub turnedAway : Core → ℕ → Vm → Change
-turnedAway c = turnedAwayFrom (c .running) (c .queue)
-
 -- D11, D12 within a Call
-abbrev pub delivering : Core → ℕ → Delivery → Change
-delivering c v d = renewed c v (d .vm) (numberOf (d .number))
+abbrev pub deliveringFrom : ℕ → Queue → ℕ → Delivery → Change
+deliveringFrom running queue v d = renewedFrom running queue v (d .vm) (numberOf (d .number))

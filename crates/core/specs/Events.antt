@@ -1,9 +1,10 @@
 -- What each event does (D1 to D30), and an event as a whole: refused, or done.
 use Prim.Native.Nat.{ℕ}
 use lib.Dec.{eqb, leb}
+use mathlib.Core.Bool.{Bool}
 use Rattle.basis.specs.Choice.{pick}
 use Rattle.config.specs.Sizes.{handlerAt, isSpare, ownerAt}
-use Rattle.core.specs.Changes.{answering, changedBy, delivering, ending, failing, noticeOf, queueing, renewed, restarting, turnedAway}
+use Rattle.core.specs.Changes.{answering, changedBy, deliveringFrom, ending, endingFrom, failing, failingFrom, noticeOf, queueing, queueingFrom, renewed, renewedFrom, restarting, turnedAwayFrom}
 use Rattle.core.specs.Refusals.{noNotice, refusalOf, refused, rowOf}
 use Rattle.core.specs.State.{full, nobody, vmAt}
 use Rattle.core.specs.declared.Change.{Change}
@@ -49,14 +50,17 @@ abbrev pub tickCore : Core → ℕ → Core
 tickCore c at = record { config = c .config; clock = tickClock c; running = tickTurn c at .who; queue = tickQueue c; vms = tickTurn c at .vms }
 
 -- Call: D25 to D30, for VM v, whose next address is stored in vm
-unfoldable pub called : Core → ℕ → ℕ → ℕ → Vm → Change
-called c v service argument vm =
-    pick (eqb service 0) (delivering c v (deliver (handlerAt (c .config) v) vm))
-    (pick (eqb service 1) (delivering c v (deliver (handlerAt (c .config) v) (backFrom vm)))
-    (pick (eqb service 2) (pick (leb argument 31) (renewed c v (pend argument vm) nobody) (failing c v vm 2 argument))
-    (pick (eqb service 3) (ending c v vm 3 (noticeOf 2 v))
-    (pick (eqb service 4) (pick (full c) (turnedAway c v vm) (queueing c v vm))
-    (failing c v vm 1 service)))))
+unfoldable pub calledFrom : ℕ → Queue → Bool → ℕ → ℕ → ℕ → ℕ → Vm → Change
+calledFrom running queue noRoom handler v service argument vm =
+    pick (eqb service 0) (deliveringFrom running queue v (deliver handler vm))
+    (pick (eqb service 1) (deliveringFrom running queue v (deliver handler (backFrom vm)))
+    (pick (eqb service 2) (pick (leb argument 31) (renewedFrom running queue v (pend argument vm) nobody) (failingFrom running queue v vm 2 argument))
+    (pick (eqb service 3) (endingFrom running queue v vm 3 (noticeOf 2 v))
+    (pick (eqb service 4) (pick noRoom (turnedAwayFrom running queue v vm) (queueingFrom running queue v vm))
+    (failingFrom running queue v vm 1 service)))))
+
+abbrev pub called : Core → ℕ → ℕ → ℕ → Vm → Change
+called c v = calledFrom (c .running) (c .queue) (full c) (handlerAt (c .config) v) v
 
 -- what an event does that is not refused
 unfoldable pub done : Core → Event → Stepped

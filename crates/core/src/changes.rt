@@ -5,11 +5,13 @@ use crate::Notice;
 use guest::Delivery;
 use guest::Vm;
 use queue::Queue;
-
+ghost use lib.Dec.{leb};
 ghost use mathlib.Core.Path.{_≡_};
-ghost use Rattle.core.specs.Changes.{endingFrom, errorOf, noticeWith, queueWithout, renewedFrom, runningWithout, turnedAwayFrom};
-ghost use Rattle.core.specs.State.{nobody};
-ghost use Rattle.guest.specs.Record.{startedAt};
+ghost use Rattle.basis.specs.Choice.{pick};
+ghost use Rattle.core.specs.Changes.{endingFrom, errorOf, failingFrom, noticeWith, queueWithout, renewedFrom, runningWithout, turnedAwayFrom};
+ghost use Rattle.core.specs.Events.{calledFrom};
+ghost use Rattle.core.specs.State.{full, nobody};
+ghost use Rattle.guest.specs.Record.{pend, startedAt};
 ghost use Rattle.queue.specs.Entries.{pushed};
 ghost use Rattle.vms.specs.Tick.{numberOf};
 
@@ -109,5 +111,59 @@ pub fn turned_away(v: u8, vm: Vm, running: u8, queue: Queue) -> Change
 fn without(running: u8, v: u8) -> u8
     ensures { λ r. ⌜ r ≡ runningWithout running v ⌝ }
 {
-    if running == v { Answer::NOBODY } else { running }
+    if running == v {
+        Answer::NOBODY
+    } else {
+        running
+    }
+}
+
+// D25 to D30: what a Call makes of VM v, whose next address is stored.
+pub fn called(
+    v: u8,
+    vm: Vm,
+    running: u8,
+    queue: Queue,
+    full: bool,
+    handler: u32,
+    service: u8,
+    argument: u32,
+) -> Change
+    ensures { λ r. ⌜ r ≡ calledFrom running queue full handler v service argument vm ⌝ }
+{
+    if service == 0 {
+        return delivering(v, vm.delivered(handler), running, queue);
+    }
+    if service == 1 {
+        return delivering(v, vm.returned().delivered(handler), running, queue);
+    }
+    if service == 2 {
+        return injected(v, vm, running, queue, argument);
+    }
+    if service == 3 {
+        return ending(v, vm, Vm::SHUT, running, queue, notice(2, v, 0, 0));
+    }
+    if service == 4 {
+        if full {
+            return turned_away(v, vm, running, queue);
+        }
+        return queueing(v, vm, running, queue);
+    }
+    failing(v, vm, running, queue, 1, service as u32)
+}
+
+// D27.
+fn injected(v: u8, vm: Vm, running: u8, queue: Queue, argument: u32) -> Change
+    ensures { λ r. ⌜ r ≡ pick (leb argument 31) (renewedFrom running queue v (pend argument vm) nobody) (failingFrom running queue v vm 2 argument) ⌝ }
+{
+    if argument <= 31 {
+        return renewed(
+            v,
+            vm.pended(argument as u8),
+            running,
+            queue,
+            Answer::NOTHING,
+        );
+    }
+    failing(v, vm, running, queue, 2, argument)
 }

@@ -1,18 +1,19 @@
 // The core: its state, whether it is sound, and every event as a method that takes the state by value.
 mod changes;
+mod events;
 mod rows;
 mod sound;
+mod steps;
 
 use config::Config;
 use guest::Vm;
 use queue::Queue;
 use table::Clock;
-
 ghost use mathlib.Core.Path.{_≡_};
-ghost use Rattle.core.specs.Changes.{changedBy};
-ghost use Rattle.core.specs.Refusals.{refused};
+ghost use Rattle.core.specs.Changes.{answering, changedBy};
+ghost use Rattle.core.specs.Refusals.{noNotice, refused};
 ghost use Rattle.core.specs.Sound.{sound};
-ghost use Rattle.core.specs.State.{freshCore};
+ghost use Rattle.core.specs.State.{freshCore, nobody};
 
 // The whole state (T1). `running` is a VM's number, or NOBODY.
 #[repr(C)]
@@ -185,6 +186,26 @@ impl Core {
                 delivered: d.delivered,
                 notice: notice,
                 result: d.result,
+            },
+        }
+    }
+
+    // A core after an event that delivers nothing and has nothing to tell (A1, A2).
+    fn answered(self) -> Stepped
+        ensures { λ r. ⌜ r ≡ answering self nobody noNotice 0 ⌝ }
+    {
+        let none = changes::notice(0, 0, 0, 0);
+        let vms = self.vms;
+        let runs = vms::vm_at(vms, self.running);
+        Stepped {
+            core: self,
+            answer: Answer {
+                refusal: 0,
+                running: self.running,
+                address: runs.address,
+                delivered: Answer::NOTHING,
+                notice: none,
+                result: 0,
             },
         }
     }

@@ -1,7 +1,6 @@
 // The rows of the refusals (R1) from 7 on, for each kind of event: the number of the first that applies, or 0.
 use guest::Vm;
 use table::Clock;
-
 ghost use lib.Dec.{eqb, leb, ltb};
 ghost use mathlib.Core.Bool.{not};
 ghost use mathlib.Core.Path.{_≡_};

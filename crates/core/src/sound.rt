@@ -3,7 +3,6 @@ use config::Config;
 use guest::Vm;
 use queue::Queue;
 use table::Clock;
-
 ghost use Prim.Native.Nat.{_≤_};
 ghost use lib.Dec.{eqb, leb, ltb};
 ghost use lib.ListN.{getD};
@@ -28,7 +27,11 @@ pub fn is_ready(standings: &[u8], v: u8) -> bool
     ensures { λ r. ⌜ r ≡ readyIn (now (standings .entry)) v ⌝ }
 {
     let i = v as usize;
-    if i < standings.len() { standings[i] == Vm::READY } else { false }
+    if i < standings.len() {
+        standings[i] == Vm::READY
+    } else {
+        false
+    }
 }
 
 // W3, W4, W5.
