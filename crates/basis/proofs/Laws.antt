@@ -2,6 +2,8 @@
 use Prim.Native.Nat.{suc, zero, ℕ, _+_, _<_, _≤_}
 use borrow.Author.Needs.{needs}
 use borrow.Author.Tests.{eq-eqb, le-leb, le-ltb, lt-leb, lt-ltb, ne-eqb}
+use lib.Bits.{and-le-l, bitOr, or-add-and, or-zero-r}
+use lib.Dec.{eqb}
 use lib.ListN.{List·getD-eq-default, getD, length, length-map}
 use mathlib.Core.Bool.{Bool, false, true}
 use mathlib.Core.List.{List, map}
@@ -158,6 +160,14 @@ module _ {A : Type 0} (f : ℕ → A → A) (a : A) where
 
   pub upTo-end : (n m : ℕ) (x : A) → x ≡ upTo f a n → n ≡ m → x ≡ upTo f a m
   upTo-end n m x e g = rw (← g) e
+
+-- joined bits are zero where both are
+pub or-none : (a b : ℕ) → eqb (bitOr a b) 0 ≡ both (eqb b 0) (eqb a 0)
+or-none a b =
+    elim (decLt 0 b) [
+      | yes h ↦ rw (ne-eqb b 0 (λ e. omega arith)) (ne-eqb (bitOr a b) 0 (λ e. omega (arith, or-add-and a b, and-le-l a b)))
+      | no h ↦ (let z : b ≡ 0 = omega arith in rw (z, or-zero-r a))
+    ]
 
 pub ruleset picks = (ways, pick-true, pick-false)
 

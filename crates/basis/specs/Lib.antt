@@ -1,3 +1,4 @@
 pub mod Choice
 pub mod Count
 pub mod Buffer
+pub mod Numbers

@@ -1,14 +1,15 @@
 -- The test `legal` says what the record `Legal` says: S1 to S7 as facts about every place.
-use Prim.Native.Nat.{suc, zero, ℕ, _<_, _≤_}
+use Prim.Native.Nat.{suc, zero, ℕ, _+_, _<_, _≤_}
 use borrow.Author.Tests.{eq-eqb, eqb-false, eqb-true, le-leb, le-ltb, leb-true, lt-ltb, ltb-true, ne-eqb}
+use lib.Bits.{bitOr}
 use lib.Dec.{eqb, leb, ltb}
 use mathlib.Core.Bool.{Bool, false, true}
 use mathlib.Core.Logic.{inl, inr, _⊎_, ⊎-elim}
 use mathlib.Core.Path.{refl, sym, _∙_, _≡_}
 use native.Mathlib.Decide.{decLt}
 use native.Mathlib.Omega.{arith}
-use Rattle.basis.proofs.Laws.{both-left, both-of, both-right, either-is, either-left, either-right, every-is, every-of, pick-case, some-is, some-of}
-use Rattle.basis.specs.Choice.{both}
+use Rattle.basis.proofs.Laws.{both-left, both-of, both-right, either-is, either-left, either-right, every-is, every-more, every-of, or-none, pick-case, some-is, some-of}
+use Rattle.basis.specs.Choice.{both, either, pick}
 use Rattle.basis.specs.Count.{every}
 use Rattle.config.specs.Places.{placesFit}
 use Rattle.config.specs.Sizes.{Legal, durationAt, durationsFit, emptyPast, entryAt, handlerAt, hasSlot, lasts, legal, names, ownerAt, ownersFit, roomFits, slotsFit, slotsRest, vmsFit, vmsRest, vmsServed, within}
@@ -155,3 +156,19 @@ legal-of c l =
     (both-of (vmsServed c) _ (every-of _ (c .count) (λ v h. (let s = l .served v h in some-of _ (c .slots) (s .0) (s .1) (eq-eqb (ownerAt c (s .0)) v (s .2)))))
     (both-of (vmsRest c) _ (every-of _ 8 (λ k h. empty-of (c .count) k (entryAt c k) (handlerAt c k) (λ m. l .vms-empty k m h)))
     (every-of _ 64 (λ k h. empty-of (c .slots) k (ownerAt c k) (durationAt c k) (λ m. l .slots-empty k m h)))))))))
+
+both-swap : (a b : Bool) → both a b ≡ both b a
+both-swap true true = refl
+both-swap true false = refl
+both-swap false true = refl
+both-swap false false = refl
+
+-- a turn of the loops that join the places past the counts
+pub past-more : (p : ℕ → Bool) (n k a b x bits y : ℕ) → p k ≡ emptyPast n k a b → eqb bits 0 ≡ every p k → x ≡ pick (ltb k n) 0 (bitOr a b) → y ≡ bitOr bits x → eqb y 0 ≡ every p (k + 1)
+past-more p n k a b x bits y h e f g =
+    every-more p k (eqb bits 0) (eqb y 0) e (rw (g, h, or-none bits x, f) (go (ltb k n)))
+  where
+    go : (t : Bool) → both (eqb (pick t 0 (bitOr a b)) 0) (eqb bits 0) ≡ both (either t (both (eqb a 0) (eqb b 0))) (eqb bits 0)
+    go true = refl
+    go false = rw (or-none a b, both-swap (eqb b 0) (eqb a 0))
+

@@ -1,10 +1,12 @@
 // The rules about the places of a configuration: S4 to S7. A loop leaves early only where it searches, so that the others compile to vector code.
 use crate::Config;
+
 ghost use Prim.Native.Nat.{_≤_};
-ghost use lib.Dec.{eqb};
+ghost use lib.Bits.{bitOr};
+ghost use lib.Dec.{eqb, ltb};
 ghost use lib.ListN.{getD};
 ghost use mathlib.Core.Path.{_≡_};
-ghost use Rattle.basis.specs.Choice.{both};
+ghost use Rattle.basis.specs.Choice.{both, either, pick};
 ghost use Rattle.basis.specs.Count.{every, some};
 ghost use Rattle.config.specs.Places.{placesFit};
 ghost use Rattle.config.specs.Sizes.{emptyPast, slotFits};
@@ -49,25 +51,27 @@ fn slots_fit(count: u8, slots: u8, owners: &[u8; 64], durations: &[u16; 64]) -> 
     ok
 }
 
+// One slot's tests, joined with no branch between them.
 fn and_slot_fits(count: u8, owner: u8, ticks: u16, ok: bool) -> bool
     ensures { λ r. ⌜ r ≡ both (slotFits count owner ticks) ok ⌝ }
 {
-    if owner == Config::SPARE {
-        if ticks == 1 {
-            return ok;
-        }
-        return false;
-    }
-    if ticks < 1 {
-        return false;
-    }
-    if Config::TICKS < ticks {
-        return false;
-    }
-    if owner < count {
-        return ok;
-    }
-    false
+    let spare = owner == Config::SPARE;
+    let named = both(1 <= ticks, ticks <= Config::TICKS);
+    let lasts = choice(spare, ticks == 1, named);
+    let names = either(spare, owner < count);
+    both(both(lasts, names), ok)
+}
+
+fn choice(on: bool, a: bool, b: bool) -> bool
+    ensures { λ r. ⌜ r ≡ pick on a b ⌝ }
+{
+    if on { a } else { b }
+}
+
+fn either(a: bool, b: bool) -> bool
+    ensures { λ r. ⌜ r ≡ either a b ⌝ }
+{
+    if a { true } else { b }
 }
 
 // S6: whether each VM has a slot.
@@ -105,43 +109,33 @@ fn has_slot(v: u8, slots: u8, owners: &[u8; 64]) -> bool
 fn vms_rest(count: u8, entries: &[u32; 8], handlers: &[u32; 8]) -> bool
     ensures { λ r. ⌜ r ≡ every (λ k. emptyPast count k (getD (now (entries .entry)) k 0) (getD (now (handlers .entry)) k 0)) 8 ⌝ }
 {
-    let n = count as usize;
-    let mut ok = true;
+    let mut bits: u32 = 0;
     let mut k: usize = 0;
     while k < 8 {
-        ok = and_empty_past(n, k, entries[k], handlers[k], ok);
+        bits = bits | past(k as u8, count, entries[k], handlers[k]);
         k = k + 1;
     }
-    ok
+    bits == 0
 }
 
 // S7, of the slot places.
 fn slots_rest(slots: u8, owners: &[u8; 64], durations: &[u16; 64]) -> bool
     ensures { λ r. ⌜ r ≡ every (λ k. emptyPast slots k (getD (now (owners .entry)) k 0) (getD (now (durations .entry)) k 0)) 64 ⌝ }
 {
-    let n = slots as usize;
-    let mut ok = true;
+    let mut bits: u32 = 0;
     let mut k: usize = 0;
     while k < 64 {
-        ok = and_empty_past(n, k, wide8(owners[k]), wide16(durations[k]), ok);
+        bits = bits | past(k as u8, slots, wide8(owners[k]), wide16(durations[k]));
         k = k + 1;
     }
-    ok
+    bits == 0
 }
 
-fn and_empty_past(n: usize, k: usize, a: u32, b: u32, ok: bool) -> bool
-    ensures { λ r. ⌜ r ≡ both (emptyPast n k a b) ok ⌝ }
+// The bits that place k holds past n places in use.
+fn past(k: u8, n: u8, a: u32, b: u32) -> u32
+    ensures { λ r. ⌜ r ≡ pick (ltb k n) 0 (bitOr a b) ⌝ }
 {
-    if k < n {
-        return ok;
-    }
-    if a != 0 {
-        return false;
-    }
-    if b != 0 {
-        return false;
-    }
-    ok
+    if k < n { 0 } else { a | b }
 }
 
 fn wide8(x: u8) -> u32

@@ -1,7 +1,7 @@
 -- What the loops of the code make, and their turns.
 use Prim.Native.Nat.{min, ℕ, _+_, _-_, _<_, _≤_}
-use borrow.Author.Tests.{le-ltb, lt-ltb, ltb-true, ne-eqb}
-use lib.Bits.{and-le-l, bitOr, or-add-and, or-zero-r}
+use borrow.Author.Tests.{le-ltb, lt-ltb, ltb-true}
+use lib.Bits.{bitOr}
 use lib.Dec.{eqb, ltb}
 use lib.ListN.{getD, length, length-append, length-take, replicate, set, take}
 use lib.Seq.{take-all, take-suc}
@@ -11,7 +11,7 @@ use mathlib.Core.Path.{ap, refl, sym, _∙_, _≡_}
 use native.Mathlib.Decide.{decLt}
 use native.Mathlib.Numerals.{add-one}
 use native.Mathlib.Omega.{arith}
-use Rattle.basis.proofs.Laws.{every-more, false-true}
+use Rattle.basis.proofs.Laws.{every-more, false-true, or-none}
 use Rattle.basis.specs.Choice.{both, either, pick}
 use Rattle.basis.specs.Count.{every, upTo}
 use Rattle.queue.proofs.Lists.{filled, filled-is, length-pad, pad, pad-at, pad-snoc, past-at, snoc-at, take-at-in, take-at-pick}
@@ -142,14 +142,6 @@ pub without-is : (v n : ℕ) (items out : List ℕ) (k m : ℕ) → length items
 without-is v n items out k m s e f g =
     let w : kept v n items k ≡ others v (take n items) = ap (others v) (take-all k (take n items) (simp length-take (omega arith))) in
     queue-is (others v (take n items)) out m (rw w at g) (rw w at f)
-
--- joined bits are zero where both are
-pub or-none : (a b : ℕ) → eqb (bitOr a b) 0 ≡ both (eqb b 0) (eqb a 0)
-or-none a b =
-    elim (decLt 0 b) [
-      | yes h ↦ rw (ne-eqb b 0 (λ e. omega arith)) (ne-eqb (bitOr a b) 0 (λ e. omega (arith, or-add-and a b, and-le-l a b)))
-      | no h ↦ (let z : b ≡ 0 = omega arith in rw (z, or-zero-r a))
-    ]
 
 -- a turn of the loop that joins the places past the entries
 pub past-more : (n : ℕ) (items : List ℕ) (k bits y : ℕ) → eqb bits 0 ≡ every (λ j. either (ltb j n) (eqb (getD items j 0) 0)) k → y ≡ pick (ltb k n) 0 (getD items k 0)

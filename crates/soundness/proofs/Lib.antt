@@ -1,0 +1,9 @@
+pub mod View
+pub mod Refused
+pub mod Records
+pub mod Kept
+pub mod Facts
+pub mod Fresh
+pub mod Clock
+pub mod Events
+pub mod Always

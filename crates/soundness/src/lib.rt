@@ -1,0 +1,1 @@
+// What holds of every event: refused or done, and soundness kept. It has no function.
