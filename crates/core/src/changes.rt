@@ -80,8 +80,8 @@ pub fn failing(v: u8, vm: Vm, running: u8, queue: Queue, code: u8, detail: u32) 
 pub fn restarting(v: u8, entry: u32, running: u8, queue: Queue) -> Change
     ensures { λ r. ⌜ r ≡ renewedFrom running (queueWithout queue v) v (startedAt entry) nobody ⌝ }
 {
-    let rest = queue.without(v);
-    renewed(v, Vm::started(entry), running, rest, Answer::NOTHING)
+    let others = queue.without(v);
+    renewed(v, Vm::started(entry), running, others, Answer::NOTHING)
 }
 
 // D20, D29: one entry more.

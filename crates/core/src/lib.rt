@@ -130,10 +130,11 @@ impl Core {
     fn refused(self, n: u8) -> Stepped
         ensures { λ r. ⌜ r ≡ refused self n ⌝ }
     {
+        let core = self;
         let none = changes::notice(0, 0, 0, 0);
         if n == 1 {
             return Stepped {
-                core: self,
+                core: core,
                 answer: Answer {
                     refusal: n,
                     running: Answer::NOBODY,
@@ -147,7 +148,7 @@ impl Core {
         let vms = self.vms;
         let vm = vms::vm_at(vms, self.running);
         Stepped {
-            core: self,
+            core: core,
             answer: Answer {
                 refusal: n,
                 running: self.running,
@@ -164,7 +165,7 @@ impl Core {
         ensures { λ r. ⌜ r ≡ changedBy self d ⌝ }
     {
         let config = self.config;
-        let clock = self.clock;
+        let stands = self.clock;
         let queue = d.queue;
         let vm = d.vm;
         let notice = d.notice;
@@ -174,7 +175,7 @@ impl Core {
         Stepped {
             core: Core {
                 config: config,
-                clock: clock,
+                clock: stands,
                 running: d.running,
                 queue: queue,
                 vms: vms,

@@ -115,13 +115,8 @@ impl Core {
             return self.refused(n);
         }
         let queue = self.queue;
-        self.changed(changes::renewed(
-            v,
-            vm.pended(Vm::SHUTDOWN),
-            self.running,
-            queue,
-            Answer::NOTHING,
-        ))
+        let waits = Answer::NOTHING;
+        self.changed(changes::renewed(v, vm.pended(Vm::SHUTDOWN), self.running, queue, waits))
     }
 
     // D18, D19.
