@@ -1,11 +1,10 @@
 -- No second answer fits (C2): two answers that meet a function's contract are equal. `Post` is the contract as the source has it.
-use Prim.Native.Nat.{ℕ}
-use borrow.Fn.Kinds.{Dens, Out, PK, RK, endedOf, resT}
+use borrow.Fn.Kinds.{Dens, endedOf, resT}
 use contract.Lifetimes.{Lfts}
 use denote.Ref.{now}
 use denote.Triple.Clauses.{AtExit}
-use mathlib.Core.List.{List}
 use mathlib.Core.Path.{sym, _∙_, _≡_}
+use Rattle.basis.proofs.Unique.{OneAnswer}
 use Rattle.config.proofs.Config.legal.Kinds as legals
 use Rattle.config.proofs.Config.legal.Reads as judging
 use Rattle.config.proofs.Config.serves_all.Kinds as serves
@@ -14,10 +13,6 @@ use Rattle.image.proofs.read.Kinds as reads
 use Rattle.image.proofs.read.Reads as reading
 use Rattle.image.proofs.write.Kinds as writes
 use Rattle.image.proofs.write.Reads as writing
-
--- for the same arguments, no two answers
-abbrev pub OneAnswer : (n : ℕ) (ps : List (PK n)) (r : RK n) → Out n ps r → Type 0
-OneAnswer n ps r Post = (κs : Lfts n) (a : Dens κs ps) (x y : resT r κs .Denot) (s t : AtExit (endedOf n ps r) κs) → Post κs a x s → Post κs a y t → x ≡ y
 
 pub read-one : OneAnswer 1 reads.ps reads.r reading.Post
 read-one κs a x y s t p q = p ∙ sym q

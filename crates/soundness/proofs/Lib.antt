@@ -7,3 +7,4 @@ pub mod Fresh
 pub mod Clock
 pub mod Events
 pub mod Always
+pub mod Unique
