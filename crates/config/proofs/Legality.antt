@@ -171,4 +171,3 @@ past-more p n k a b x bits y h e f g =
     go : (t : Bool) → both (eqb (pick t 0 (bitOr a b)) 0) (eqb bits 0) ≡ both (either t (both (eqb a 0) (eqb b 0))) (eqb bits 0)
     go true = refl
     go false = rw (or-none a b, both-swap (eqb b 0) (eqb a 0))
-

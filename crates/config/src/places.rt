@@ -1,6 +1,5 @@
 // The rules about the places of a configuration: S4 to S7. A loop leaves early only where it searches, so that the others compile to vector code.
 use crate::Config;
-
 ghost use Prim.Native.Nat.{_≤_};
 ghost use lib.Bits.{bitOr};
 ghost use lib.Dec.{eqb, ltb};
