@@ -1,0 +1,73 @@
+// The live core (T9, K6): one core that is lent and changed where it stands, and what a host in C or Rust calls.
+mod inputs;
+
+use core::Answer;
+use core::Core;
+use core::Event;
+use core::Stepped;
+ghost use mathlib.Core.Path.{_≡_};
+ghost use Rattle.core.specs.Events.{stepOf};
+ghost use Rattle.live.specs.Host.{begunFrom, stepBy};
+
+// An event as plain numbers: the kind of its record (E2 to E10), then what its body holds. What a kind does not have is not read.
+#[repr(C)]
+pub struct Input {
+    pub kind: u8,
+    pub byte: u8, // the VM, the service, the offset or the code
+    pub word: u32, // the address of a Tick, the argument, the value or the data
+    pub next: u32, // the next address of a Call
+}
+
+// A fresh core, or the fault of its image with the offset; the core beside a fault refuses every event with 1 (I10, T7).
+#[repr(C)]
+pub struct Begun {
+    pub fault: u8,
+    pub offset: usize,
+    pub core: Core,
+}
+
+// The live layer: any event on a core that is lent.
+pub fn happen(c: &mut Core, e: Event) -> Answer
+    ensures { λ r. ⌜ (now (c .exit) ≡ stepOf (now (c .entry)) e .core) × (r ≡ stepOf (now (c .entry)) e .answer) ⌝ }
+{
+    let after = Core::step(*c, e);
+    *c = after.core;
+    after.answer
+}
+
+// The fresh core of an image of any length.
+#[no_mangle]
+pub extern "C" fn core_fresh(s: &[u8]) -> Begun
+    ensures { λ r. ⌜ r ≡ begunFrom (now (s .entry)) ⌝ }
+{
+    let r = image::read(s);
+    let config = r.config;
+    let core = Core::fresh(config);
+    Begun {
+        fault: r.fault,
+        offset: r.offset,
+        core: core,
+    }
+}
+
+// An event by value: the state after it, with the answer.
+#[no_mangle]
+pub extern "C" fn core_step(c: Core, e: Input) -> Stepped
+    ensures { λ r. ⌜ r ≡ stepBy c e ⌝ }
+{
+    if inputs::known(e.kind) {
+        Core::step(c, inputs::event_of(e))
+    } else {
+        inputs::unknown(c)
+    }
+}
+
+// The live layer for a host: an event on the core that it lends.
+#[no_mangle]
+pub extern "C" fn core_live(c: &mut Core, e: Input) -> Answer
+    ensures { λ r. ⌜ (now (c .exit) ≡ stepBy (now (c .entry)) e .core) × (r ≡ stepBy (now (c .entry)) e .answer) ⌝ }
+{
+    let s = core_step(*c, e);
+    *c = s.core;
+    s.answer
+}

@@ -1,0 +1,187 @@
+-- Ours meets the second demand on delivery: what is delivered, and when, from the fields before the event.
+use Prim.Native.Nat.{ℕ, _<_, _≤_}
+use borrow.Author.Tests.{eq-eqb, le-leb, ne-eqb}
+use lib.Bits.{bitOr}
+use lib.ListN.{getD, set}
+use lib.Seq.{getD-set-same}
+use mathlib.Core.Bool.{true}
+use mathlib.Core.Path.{ap, refl, subst, sym, _∙_, _≡_}
+use native.Mathlib.Omega.{arith}
+use Rattle.basis.proofs.Laws.{false-true}
+use Rattle.basis.specs.Choice.{both}
+use Rattle.config.specs.Sizes.{handlerAt}
+use Rattle.config.specs.declared.Config.{Config}
+use Rattle.core.specs.Changes.{changedBy, deliveringFrom, renewedFrom}
+use Rattle.core.specs.Events.{called, calledFrom, done, stepOf, tickClock, tickTurn}
+use Rattle.core.specs.Refusals.{refused, rowOf}
+use Rattle.core.specs.Sound.{sound}
+use Rattle.core.specs.State.{full, nobody, vmAt}
+use Rattle.core.specs.declared.Change.{Change}
+use Rattle.core.specs.declared.Core.{Core}
+use Rattle.core.specs.declared.Event.the-variants.{Call, Extra, Fault, Restart, Shutdown, Start, Stop, Tick, Write}
+use Rattle.core.specs.declared.Event.{Event}
+use Rattle.core.specs.declared.Stepped.{Stepped}
+use Rattle.guest.proofs.Facts.{deliver-hit, deliver-number, deliver-quiet, pend-address}
+use Rattle.guest.specs.Bits.{bit, clearBit, highest, setBit}
+use Rattle.guest.specs.Deliver.{backFrom, deliver, due, enter, shown}
+use Rattle.guest.specs.Record.{endedAs, fresh, pend, savedAt}
+use Rattle.guest.specs.declared.Delivery.{Delivery}
+use Rattle.guest.specs.declared.Found.the-variants.{At, Nothing}
+use Rattle.guest.specs.declared.Status.{Status}
+use Rattle.guest.specs.declared.Vm.{Vm}
+use Rattle.promises.proofs.Slices.{vm-small}
+use Rattle.promises.proofs.Starting.{count-few}
+use Rattle.promises.proofs.Steps.{Reached, ours-at}
+use Rattle.promises.proofs.Ticks.{passed-address, passed-status, passedOf, tick-enters, tick-number, tick-passes, tick-silent}
+use Rattle.promises.specs.Demands.{Delivered, Delivers, DeliversAtCall, DeliversAtTick, DeliversBy, DeliversOf, Enters, GoesOn, Offer, dueOf, returnOffer, syncOffer, tickOffer}
+use Rattle.promises.specs.History.{Given, Moment, moment, momentOf, stateOf, ticksOf}
+use Rattle.soundness.proofs.Facts.{running-below, sound-is}
+use Rattle.soundness.proofs.Refused.{done-number}
+use Rattle.soundness.proofs.View.{call-case, row-call, row-shutdown, step-case}
+use Rattle.vms.specs.Tick.{numberOf}
+
+-- ---- a delivery to a VM that has what the offer says
+
+module _ (h : ℕ) (x : Vm) (o : Offer) (pending : x .status .pending ≡ o .pending) (enabled : x .status .enabled ≡ o .enabled) (address : x .address ≡ o .address) where
+  due-offer : due (x .status) ≡ dueOf o
+  unfolding due
+  due-offer =
+      ap (λ (p : ℕ). highest (λ n. both (bit n p) (bit n (x .status .enabled))) 32) pending
+      ∙ ap (λ (p : ℕ). highest (λ n. both (bit n (o .pending)) (bit n p)) 32) enabled
+
+  delivered-number : numberOf (deliver h x .number) ≡ numberOf (dueOf o)
+  delivered-number = ap numberOf (deliver-number h x ∙ due-offer)
+
+  delivered-none : dueOf o ≡ Nothing → GoesOn o (deliver h x .vm)
+  delivered-none e =
+      subst (λ (r : Delivery). GoesOn o (r .vm)) (sym (deliver-quiet h x (due-offer ∙ e)))
+      (record { pending = pending; enabled = enabled; address = address })
+
+  delivered-one : (n : ℕ) → dueOf o ≡ At n → Enters h n o (deliver h x .vm)
+  delivered-one n e =
+      subst (λ (r : Delivery). Enters h n o (r .vm)) (sym (deliver-hit h n x (due-offer ∙ e)))
+      (record { reason = refl; previous = enabled; enabled = refl; pending = ap (clearBit n) pending; resume = address; address = refl })
+
+  pub delivered : (g : Config) (m : Moment) → m .answer .delivered ≡ numberOf (deliver h x .number) → vmAt (m .after) (o .vm) ≡ deliver h x .vm → h ≡ handlerAt g (o .vm) → Delivered g o m
+  delivered g m a b e =
+      record {
+        number = a ∙ delivered-number;
+        goes-on = λ i. subst (λ (w : Vm). GoesOn o w) (sym b) (delivered-none i);
+        enters = λ n i. subst (λ (w : Vm). Enters (handlerAt g (o .vm)) n o w) (sym b) (subst (λ (y : ℕ). Enters y n o (deliver h x .vm)) e (delivered-one n i));
+      }
+
+-- ---- each event
+
+module _ (g : Config) (d : Given g) (k : ℕ) (c : Core) (p : Reached g k c) where
+  handler-same : (v : ℕ) → handlerAt (c .config) v ≡ handlerAt g v
+  handler-same v = ap (λ (x : Config). handlerAt x v) (p .same)
+
+  tick-delivers : (at : ℕ) → DeliversAtTick g at (momentOf k c (Tick at) (done c (Tick at)))
+  unfolding done enter shown
+  tick-delivers at =
+      record {
+        to-runner = λ v h e. runner v (vm-small g d v h) e;
+        to-nobody = λ e. tick-silent c at e;
+        others = λ w n. ap (λ (x : Vm). x .status) (tick-passes c at w n) ∙ passed-status (c .running) at (c .config .count) (c .vms) w;
+        addresses = λ w h n. ap (λ (x : Vm). x .address) (tick-passes c at w n) ∙ passed-address (c .running) at (c .config .count) (c .vms) (p .shaped .records) w (vm-small g d w h);
+      }
+    where
+      runner : (v : ℕ) → v < 8 → tickTurn c at .who ≡ v → Delivered g (tickOffer c at v) (momentOf k c (Tick at) (done c (Tick at)))
+      runner v small e =
+          let w = getD (passedOf c at) v fresh in
+          let s : w .status ≡ vmAt c v .status = passed-status (c .running) at (c .config .count) (c .vms) v in
+          delivered (handlerAt (c .config) v) (shown (tickClock c .left) w) (tickOffer c at v)
+          (ap (λ (y : Status). bitOr (y .pending) (y .ontick)) s) (ap (λ (y : Status). y .enabled) s)
+          (passed-address (c .running) at (c .config .count) (c .vms) (p .shaped .records) v small)
+          g (momentOf k c (Tick at) (done c (Tick at)))
+          (tick-number c at (p .shaped .records) v small e) (tick-enters c at (p .shaped .records) v small e) (handler-same v)
+
+  stored-at : (v : ℕ) (w : Vm) → v < c .config .count → getD (set (c .vms) v w) v fresh ≡ w
+  stored-at v w h = getD-set-same (c .vms) v w fresh (let q = p .shaped .records in let n = count-few g d k c p in omega arith)
+
+  -- a Call, by its service
+  module _ (s n at : ℕ) (low : c .running < c .config .count) where
+    abbrev vm : Vm
+    vm = savedAt at (vmAt c (c .running))
+
+    abbrev of : Change → Moment
+    of x = momentOf k c (Call s n at) (changedBy c x)
+
+    call-is : (x : Change) → called c (c .running) s n vm ≡ x → (P : Moment → Type 0) → P (of x) → P (momentOf k c (Call s n at) (done c (Call s n at)))
+    unfolding done
+    call-is x e P h = subst (λ (y : Change). P (of y)) (sym e) h
+
+    sync-is : s ≡ 0 → called c (c .running) s n vm ≡ deliveringFrom (c .running) (c .queue) (c .running) (deliver (handlerAt (c .config) (c .running)) vm)
+    unfolding calledFrom
+    sync-is h = rw h
+
+    return-is : s ≡ 1 → called c (c .running) s n vm ≡ deliveringFrom (c .running) (c .queue) (c .running) (deliver (handlerAt (c .config) (c .running)) (backFrom vm))
+    unfolding calledFrom
+    return-is h = rw h
+
+    inject-is : s ≡ 2 → n ≤ 31 → called c (c .running) s n vm ≡ renewedFrom (c .running) (c .queue) (c .running) (pend n vm) nobody
+    unfolding calledFrom
+    inject-is h i = rw (h, le-leb n 31 i)
+
+    injected : n ≤ 31 → pend n vm .status .pending ≡ setBit n (vmAt c (c .running) .status .pending)
+    unfolding pend
+    injected i = rw (le-leb n 31 i)
+
+    call-silent : 1 < s → called c (c .running) s n vm .delivered ≡ nobody
+    call-silent h =
+        call-case (λ (x : Change). x .delivered ≡ nobody) (c .running) (c .queue) (full c) (handlerAt (c .config) (c .running)) (c .running) s n vm
+        (λ e. absurd (omega arith)) (λ e. absurd (omega arith)) (λ e i. refl) (λ e i. refl) (λ e. refl) (λ e i. refl) (λ e i. refl) (λ e. refl)
+
+    call-saves : 1 < s → vmAt (changedBy c (called c (c .running) s n vm) .core) (c .running) .address ≡ at
+    call-saves h =
+        call-case (λ (x : Change). vmAt (changedBy c x .core) (c .running) .address ≡ at) (c .running) (c .queue) (full c) (handlerAt (c .config) (c .running)) (c .running) s n vm
+        (λ e. absurd (omega arith)) (λ e. absurd (omega arith)) (λ e i. stays (pend n vm) (pend-address n vm)) (λ e i. stays (endedAs 4 vm) refl)
+        (λ e. stays (endedAs 3 vm) refl) (λ e i. stays vm refl) (λ e i. stays vm refl) (λ e. stays (endedAs 4 vm) refl)
+      where
+        stays : (w : Vm) → w .address ≡ at → getD (set (c .vms) (c .running) w) (c .running) fresh .address ≡ at
+        stays w e = ap (λ (x : Vm). x .address) (stored-at (c .running) w low) ∙ e
+
+    call-delivers : DeliversAtCall g s n at (momentOf k c (Call s n at) (done c (Call s n at)))
+    call-delivers =
+        record {
+          sync = λ h. call-is _ (sync-is h) (Delivered g (syncOffer c at))
+              (delivered (handlerAt (c .config) (c .running)) vm (syncOffer c at) refl refl refl g (of (deliveringFrom (c .running) (c .queue) (c .running) (deliver (handlerAt (c .config) (c .running)) vm))) refl (stored-at (c .running) _ low) (handler-same (c .running)));
+          return = λ h. call-is _ (return-is h) (Delivered g (returnOffer c))
+              (delivered (handlerAt (c .config) (c .running)) (backFrom vm) (returnOffer c) refl refl refl g (of (deliveringFrom (c .running) (c .queue) (c .running) (deliver (handlerAt (c .config) (c .running)) (backFrom vm)))) refl (stored-at (c .running) _ low) (handler-same (c .running)));
+          never = λ h. call-is (called c (c .running) s n vm) refl (λ (m : Moment). m .answer .delivered ≡ nobody) (call-silent h);
+          saved = λ h. call-is (called c (c .running) s n vm) refl (λ (m : Moment). vmAt (m .after) (m .before .running) .address ≡ at) (call-saves h);
+          waits = λ h i. call-is _ (inject-is h i) (λ (m : Moment). vmAt (m .after) (m .before .running) .status .pending ≡ setBit n (vmAt (m .before) (m .before .running) .status .pending))
+              (ap (λ (w : Vm). w .status .pending) (stored-at (c .running) (pend n vm) low) ∙ injected i);
+        }
+
+  eleven : (w : Vm) → pend 11 w .status .pending ≡ setBit 11 (w .status .pending)
+  unfolding pend
+  eleven w = refl
+
+  done-delivers : (e : Event) → sound c ≡ true → rowOf c e ≡ 0 → DeliversBy g (momentOf k c e (done c e)) e
+  unfolding done
+  done-delivers Start s r = refl
+  done-delivers (Tick at) s r = tick-delivers at
+  done-delivers (Stop v) s r = refl
+  done-delivers (Shutdown v) s r =
+      let e = stored-at v (pend 11 (vmAt c v)) (row-shutdown c v r .1) in
+      record {
+        never = refl;
+        waits = ap (λ (w : Vm). w .status .pending) e ∙ eleven (vmAt c v);
+        address = ap (λ (w : Vm). w .address) e ∙ pend-address 11 (vmAt c v);
+      }
+  done-delivers (Restart v) s r = refl
+  done-delivers (Extra v) s r = refl
+  done-delivers (Call x n at) s r = call-delivers x n at (running-below c (p .shaped .records) (sound-is c s) (row-call c x n at r .1))
+  done-delivers (Write o x) s r = refl
+  done-delivers (Fault n x) s r = refl
+
+  step-delivers : (e : Event) → DeliversOf g (moment stepOf k c e)
+  unfolding refused
+  step-delivers e =
+      step-case c e (λ (s : Stepped). DeliversOf g (momentOf k c e s))
+      (λ n q h. record { refused = λ w. refl; accepted = λ w. false-true (sym (ne-eqb n 0 h) ∙ w) })
+      (λ s r. record { refused = λ w. false-true (sym w ∙ eq-eqb _ 0 (done-number c e)); accepted = λ w. done-delivers e s r })
+
+pub ours-delivers : Delivers stepOf
+ours-delivers g d es e = step-delivers g d (ticksOf stepOf g es) (stateOf stepOf g es) (ours-at g d es) e

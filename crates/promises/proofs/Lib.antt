@@ -1,0 +1,15 @@
+pub mod Facts
+pub mod Refusing
+pub mod Place
+pub mod Steps
+pub mod Lawful
+pub mod Slices
+pub mod Waits
+pub mod Starting
+pub mod Ticks
+pub mod Clocks
+pub mod Delivery
+pub mod Worthless
+pub mod Vectors
+pub mod Answers
+pub mod Ours

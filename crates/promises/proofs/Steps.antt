@@ -1,0 +1,87 @@
+-- What holds of every state of a run: its configuration, its lists, its place in the table by the count of ticks.
+use Prim.Native.Nat.{ℕ, _+_}
+use borrow.Author.Tests.{ne-eqb}
+use mathlib.Core.List.{List, [], _∷_}
+use mathlib.Core.Path.{ap, refl, subst, sym, _∙_, _≡_}
+use native.Mathlib.Numerals.{add-one}
+use Rattle.basis.specs.Choice.{pick}
+use Rattle.config.proofs.Legality.{legal-is}
+use Rattle.config.specs.Sizes.{ownerAt}
+use Rattle.config.specs.declared.Config.{Config}
+use Rattle.core.specs.Events.{done, stepOf, tickClock, tickOwner}
+use Rattle.core.specs.Refusals.{refused}
+use Rattle.core.specs.State.{Shaped, freshCore}
+use Rattle.core.specs.declared.Core.{Core}
+use Rattle.core.specs.declared.Event.the-variants.{Call, Extra, Fault, Restart, Shutdown, Start, Stop, Tick, Write}
+use Rattle.core.specs.declared.Event.{Event}
+use Rattle.core.specs.declared.Stepped.{Stepped}
+use Rattle.promises.proofs.Place.{placed-then, stands-same}
+use Rattle.promises.specs.Demands.{Placed, Stands, Table}
+use Rattle.promises.specs.History.{Behaviour, Each, Given, Moment, countAfter, moment, momentOf, moments, stateAfter, stateOf, ticksAfter, ticksOf}
+use Rattle.promises.specs.Moments.{tableAt}
+use Rattle.soundness.proofs.Kept.{done-config, done-place, shaped-done, shaped-fresh}
+use Rattle.soundness.proofs.Refused.{done-number}
+use Rattle.soundness.proofs.View.{step-case}
+use Rattle.soundness.specs.Run.{isTick}
+use Rattle.table.specs.Position.{nextClock}
+
+pub record Reached (g : Config) (k : ℕ) (c : Core) : Type 0 where
+  pub same : c .config ≡ g
+  pub shaped : Shaped c
+  pub stands : Stands g k (c .clock)
+
+pub at-fresh : (g : Config) → Given g → Reached g 0 (freshCore g)
+at-fresh g d = record { same = refl; shaped = shaped-fresh g (d .sized); stands = refl }
+
+module _ (g : Config) (d : Given g) (k : ℕ) (c : Core) (p : Reached g k c) where
+  -- where a tick takes the clock
+  pub tick-placed : Placed g k (tickClock c)
+  unfolding tickClock
+  tick-placed =
+      subst (λ (x : Config). Placed g k (nextClock (x .slots) (x .durations) (c .clock))) (sym (p .same))
+      (placed-then g (legal-is g (d .legal)) k (c .clock) (p .stands))
+
+  pub tick-owner : tickOwner c ≡ tableAt g k
+  tick-owner = ap (λ (x : Config). ownerAt x (tickClock c .slot)) (p .same) ∙ tick-placed .owner
+
+  stands-done : (e : Event) → Stands g (pick (isTick e) (k + 1) k) (done c e .core .clock)
+  unfolding done
+  stands-done Start = stands-same g k _ (c .clock) (done-place c Start refl) (p .stands)
+  stands-done (Tick at) = rw (add-one k) tick-placed
+  stands-done (Stop v) = p .stands
+  stands-done (Shutdown v) = p .stands
+  stands-done (Restart v) = p .stands
+  stands-done (Extra v) = p .stands
+  stands-done (Call s n at) = p .stands
+  stands-done (Write o x) = p .stands
+  stands-done (Fault n x) = p .stands
+
+  pub step-at : (e : Event) → Reached g (ticksAfter (moment stepOf k c e)) (stepOf c e .core)
+  unfolding refused
+  step-at e =
+      step-case c e (λ (s : Stepped). Reached g (ticksAfter (momentOf k c e s)) (s .core))
+      (λ n q h. rw (ne-eqb n 0 h) p)
+      (λ s r. record {
+        same = done-config c e ∙ p .same;
+        shaped = shaped-done c (p .shaped) e;
+        stands = rw (done-number c e) (stands-done e);
+      })
+
+-- a run of any behaviour that keeps an invariant
+module _ (b : Behaviour) (Inv : ℕ → Core → Type 0) (keeps : (k : ℕ) (c : Core) → Inv k c → (e : Event) → Inv (ticksAfter (moment b k c e)) (b c e .core)) where
+  pub after-inv : (es : List Event) (k : ℕ) (c : Core) → Inv k c → Inv (countAfter b k c es) (stateAfter b c es)
+  unfolding countAfter stateAfter
+  after-inv [] k c i = i
+  after-inv (e ∷ es) k c i = after-inv es _ _ (keeps k c i e)
+
+  pub each-of : (P : Moment → Type 0) → ((k : ℕ) (c : Core) → Inv k c → (e : Event) → P (moment b k c e)) → (es : List Event) (k : ℕ) (c : Core) → Inv k c → Each P (moments b k c es)
+  unfolding moments
+  each-of P f [] k c i = tt
+  each-of P f (e ∷ es) k c i = (f k c i e, each-of P f es _ _ (keeps k c i e))
+
+pub ours-at : (g : Config) → Given g → (es : List Event) → Reached g (ticksOf stepOf g es) (stateOf stepOf g es)
+ours-at g d es = after-inv stepOf (Reached g) (step-at g d) es 0 (freshCore g) (at-fresh g d)
+
+-- D10: after k + 1 accepted ticks the core stands at table tick k modulo the sum of durations
+pub ours-table : Table stepOf
+ours-table g d es = let p = ours-at g d es in record { kept = p .same; stands = p .stands }

@@ -1,0 +1,192 @@
+-- Ours meets the third demand on waiting: an accepted request is served by the spare tick after those that its elders take.
+use Prim.Native.Nat.{ℕ, _+_, _<_}
+use borrow.Author.Tests.{eq-eqb, eqb-false, eqb-true, ne-eqb}
+use lib.Dec.{eqb}
+use lib.ListN.{length}
+use mathlib.Core.Bool.{Bool, false, true}
+use mathlib.Core.List.{List, append-assoc, map, [], _++_, _∷_}
+use mathlib.Core.Path.{ap, refl, subst, sym, _∙_, _≡_}
+use native.Mathlib.Omega.{arith}
+use Rattle.basis.proofs.Laws.{both-left, both-right, false-true}
+use Rattle.basis.specs.Choice.{both, pick}
+use Rattle.config.specs.declared.Config.{Config}
+use Rattle.core.specs.Events.{stepOf}
+use Rattle.core.specs.declared.Core.{Core}
+use Rattle.core.specs.declared.Event.the-variants.{Call, Extra, Fault, Restart, Shutdown, Start, Stop, Tick, Write}
+use Rattle.core.specs.declared.Event.{Event}
+use Rattle.promises.proofs.Facts.{num, times-cons, times-nil}
+use Rattle.promises.proofs.Lawful.{Backs, Lawful, lawful}
+use Rattle.promises.proofs.Slices.{spare-front, vm-small}
+use Rattle.promises.proofs.Steps.{Reached, each-of, ours-at, step-at}
+use Rattle.promises.specs.Demands.{Waiting}
+use Rattle.promises.specs.History.{Behaviour, Moment, moment, moments, next, ticksAfter, times, went}
+use Rattle.promises.specs.Moments.{asks, ends, isRequest, runs, spare}
+use Rattle.promises.specs.Queueing.{Add, Effect, Entry, Follows, Keep, Remove, Take, affected, effect, effectBy, entriesNot, followed, isRemove, marked, mineFirst, ofService, plain, removes, servedIn, tail}
+use Rattle.queue.proofs.Meaning.{others-length}
+use Rattle.queue.specs.Entries.{entries, frontOf, others, rest}
+
+-- ---- the marked queue projects onto the queue
+
+abbrev vmsOf : List Entry → List ℕ
+vmsOf q = map (λ (x : Entry). x .vm) q
+
+vms-append : (q r : List Entry) → vmsOf (q ++ r) ≡ vmsOf q ++ vmsOf r
+vms-append [] r = refl
+vms-append (x ∷ q) r = rw (vms-append q r)
+
+vms-plain : (q : List ℕ) → vmsOf (map plain q) ≡ q
+vms-plain [] = refl
+vms-plain (x ∷ q) = rw (vms-plain q)
+
+vms-not : (w : ℕ) (q : List Entry) → vmsOf (entriesNot w q) ≡ others w (vmsOf q)
+unfolding entriesNot others
+vms-not w [] = refl
+vms-not w (x ∷ q) = go (eqb (x .vm) w) (vms-not w q)
+  where
+    go : (b : Bool) → vmsOf (entriesNot w q) ≡ others w (vmsOf q) → vmsOf (pick b (entriesNot w q) (x ∷ entriesNot w q)) ≡ pick b (others w (vmsOf q)) (x .vm ∷ others w (vmsOf q))
+    go true h = h
+    go false h = rw h
+
+vms-tail : (q : List Entry) → vmsOf (tail q) ≡ rest (vmsOf q)
+unfolding rest
+vms-tail [] = refl
+vms-tail (x ∷ q) = refl
+
+vms-followed : (f : Effect) (q : List Entry) → vmsOf (followed f q) ≡ affected f (vmsOf q)
+vms-followed Keep q = refl
+vms-followed Take q = vms-tail q
+vms-followed (Add w) q = vms-append q (plain w ∷ [])
+vms-followed (Remove w) q = vms-not w q
+
+-- the request stays when the entries of another VM leave
+not-mine : (w v : ℕ) (p : List ℕ) (z : List Entry) → eqb v w ≡ false
+    → entriesNot w (map plain p ++ (marked v ∷ z)) ≡ map plain (others w p) ++ (marked v ∷ entriesNot w z)
+unfolding entriesNot others
+not-mine w v [] z e = rw e
+not-mine w v (x ∷ p) z e = go (eqb x w) (not-mine w v p z e)
+  where
+    go : (b : Bool) → entriesNot w (map plain p ++ (marked v ∷ z)) ≡ map plain (others w p) ++ (marked v ∷ entriesNot w z)
+        → pick b (entriesNot w (map plain p ++ (marked v ∷ z))) (plain x ∷ entriesNot w (map plain p ++ (marked v ∷ z)))
+        ≡ map plain (pick b (others w p) (x ∷ others w p)) ++ (marked v ∷ entriesNot w z)
+    go true h = h
+    go false h = rw h
+
+eqb-turn : (a b : ℕ) → eqb a b ≡ false → eqb b a ≡ false
+eqb-turn a b e = ne-eqb b a (λ i. eqb-false a b e (sym i))
+
+-- ---- an accepted request joins the queue
+
+pub asks-adds : (g : Config) (v : ℕ) (m : Moment) → asks v m ≡ true → effect g m ≡ Add v
+unfolding asks effect
+asks-adds g v m h =
+    let a = both-left (went m) _ h in
+    rw a (by (m .event) (both-right (went m) _ h))
+  where
+    by : (e : Event) → isRequest v (m .before) (m .answer) e ≡ true → effectBy g m e ≡ Add v
+    by Start i = false-true i
+    by (Tick at) i = false-true i
+    by (Stop w) i = false-true i
+    by (Shutdown w) i = false-true i
+    by (Restart w) i = false-true i
+    by (Extra w) i = ap Add (eqb-true w v i)
+    by (Call s n at) i =
+        (let a : s ≡ 4 = eqb-true s 4 (both-left (eqb s 4) _ i) in
+        let j = both-right (eqb s 4) _ i in
+        let r = both-left (eqb (m .answer .result) 0) _ j in
+        let w = eqb-true (m .before .running) v (both-right (eqb (m .answer .result) 0) _ j) in
+        subst (λ (x : ℕ). ofService (m .before .running) x n (m .answer .result) ≡ Add v) (sym a) (rw r (ap Add w)))
+    by (Write o x) i = false-true i
+    by (Fault k x) i = false-true i
+
+-- an event that takes v's entries away leaves v no longer ready, or is its restart
+excused-law : (g : Config) (v : ℕ) (m : Moment) → Lawful g m → removes g v m ≡ true → ends v m ≡ true
+excused-law g v m l = go (effect g m) (l .backed)
+  where
+    go : (f : Effect) → Backs g m f → isRemove v f ≡ true → ends v m ≡ true
+    go Keep k h = false-true h
+    go Take k h = false-true h
+    go (Add w) k h = false-true h
+    go (Remove w) k h = subst (λ (x : ℕ). ends x m ≡ true) (eqb-true w v h) (k .1)
+
+none-left : (p : Moment → Bool) (m : Moment) (ms : List Moment) → times p (m ∷ ms) ≡ 0 → (p m ≡ false) × (times p ms ≡ 0)
+none-left p m ms h = (go (p m) (omega (arith, times-cons p m ms)), omega (arith, times-cons p m ms))
+  where
+    go : (b : Bool) → num b ≡ 0 → b ≡ false
+    go true e = absurd (omega arith)
+    go false e = refl
+
+-- ---- one moment of waiting: v's request has the entries p ahead of it and z behind it
+
+module _ (g : Config) (v : ℕ) (small : v < 255) (m : Moment) (l : Lawful g m) (ms : List Moment) (stays : removes g v m ≡ false)
+    (ih : (p : List ℕ) (z : List Entry) → vmsOf (map plain p ++ (marked v ∷ z)) ≡ entries (m .after .queue) → length p < times (spare g) ms → servedIn g v (map plain p ++ (marked v ∷ z)) ms ≡ true) where
+  on : (f : Effect) (q : List Entry) → vmsOf q ≡ entries (m .before .queue) → entries (m .after .queue) ≡ affected f (entries (m .before .queue)) → vmsOf (followed f q) ≡ entries (m .after .queue)
+  on f q e a = vms-followed f q ∙ ap (affected f) e ∙ sym a
+
+  take-step : (p : List ℕ) (z : List Entry) → vmsOf (map plain p ++ (marked v ∷ z)) ≡ entries (m .before .queue) → length p < num (spare g m) + times (spare g) ms
+      → effect g m ≡ Take → spare g m ≡ true → entries (m .after .queue) ≡ rest (entries (m .before .queue))
+      → pick (both (spare g m) (mineFirst (map plain p ++ (marked v ∷ z)))) (runs v m) (servedIn g v (followed (effect g m) (map plain p ++ (marked v ∷ z))) ms) ≡ true
+  unfolding frontOf
+  take-step [] z e n i k a = rw k (eq-eqb (m .answer .running) v (spare-front g v small m l k ∙ ap frontOf (sym e)))
+  take-step (x ∷ p) z e n i k a = rw (k, i) (ih p z (on Take (map plain (x ∷ p) ++ (marked v ∷ z)) e a) (omega (arith, n, ap num k)))
+
+  wait-step : (p : List ℕ) (z : List Entry) → vmsOf (map plain p ++ (marked v ∷ z)) ≡ entries (m .before .queue) → length p < num (spare g m) + times (spare g) ms
+      → servedIn g v (map plain p ++ (marked v ∷ z)) (m ∷ ms) ≡ true
+  unfolding servedIn
+  wait-step p z e n = go (effect g m) refl (l .backed) (l .queue)
+    where
+      q : List Entry
+      q = map plain p ++ (marked v ∷ z)
+
+      other : (w : ℕ) → effect g m ≡ Remove w → eqb v w ≡ false
+      other w i = eqb-turn w v (sym (ap (isRemove v) i) ∙ stays)
+
+      go : (f : Effect) → effect g m ≡ f → Backs g m f → entries (m .after .queue) ≡ affected f (entries (m .before .queue))
+          → pick (both (spare g m) (mineFirst q)) (runs v m) (servedIn g v (followed (effect g m) q) ms) ≡ true
+      go Keep i k a = rw (k, i) (ih p z (on Keep q e a) (omega (arith, n, ap num k)))
+      go Take i k a = take-step p z e n i k a
+      go (Add w) i k a =
+          let j = append-assoc (map plain p) (marked v ∷ z) (plain w ∷ []) in
+          rw (k .0, i, j) (ih p (z ++ (plain w ∷ [])) (rw j at (on (Add w) q e a)) (omega (arith, n, ap num (k .0))))
+      go (Remove w) i k a =
+          let j = not-mine w v p z (other w i) in
+          rw (k .0, i, j) (ih (others w p) (entriesNot w z) (rw j at (on (Remove w) q e a)) (omega (arith, n, ap num (k .0), others-length w p)))
+
+-- ---- a stretch of any behaviour whose moments are lawful
+
+module _ (g : Config) (b : Behaviour) (Inv : ℕ → Core → Type 0)
+    (keeps : (k : ℕ) (c : Core) → Inv k c → (e : Event) → Inv (ticksAfter (moment b k c e)) (b c e .core))
+    (law : (k : ℕ) (c : Core) → Inv k c → (e : Event) → Lawful g (moment b k c e)) (v : ℕ) (small : v < 255) where
+  pub wait : (es : List Event) (k : ℕ) (c : Core) → Inv k c → (p : List ℕ) (z : List Entry) → vmsOf (map plain p ++ (marked v ∷ z)) ≡ entries (c .queue)
+      → times (removes g v) (moments b k c es) ≡ 0 → length p < times (spare g) (moments b k c es) → servedIn g v (map plain p ++ (marked v ∷ z)) (moments b k c es) ≡ true
+  unfolding moments
+  wait [] k c i p z e r n = absurd (omega (arith, n, times-nil (spare g)))
+  wait (e ∷ es) k c i p z q r n =
+      let m = moment b k c e in
+      let ms = moments b (ticksAfter m) (b c e .core) es in
+      let o = none-left (removes g v) m ms r in
+      wait-step g v small m (law k c i e) ms (o .0) (λ p z f n. wait es (ticksAfter m) (b c e .core) (keeps k c i e) p z f (o .1) n) p z q (omega (arith, n, times-cons (spare g) m ms))
+
+  pub follows : (es : List Event) (k : ℕ) (c : Core) → Inv k c → (q : List Entry) → vmsOf q ≡ entries (c .queue) → Follows g q (moments b k c es)
+  unfolding moments
+  follows [] k c i q h = tt
+  follows (e ∷ es) k c i q h =
+      let m = moment b k c e in
+      (h, follows es (ticksAfter m) (b c e .core) (keeps k c i e) (followed (effect g m) q) (vms-followed (effect g m) q ∙ ap (affected (effect g m)) h ∙ sym (law k c i e .queue)))
+
+-- ---- ours
+
+pub ours-waiting : Waiting stepOf
+ours-waiting g d v h es e fs a =
+    let small : v < 255 = omega (arith, vm-small g d v h) in
+    let i = ours-at g d es in
+    let m = next stepOf g es e in
+    let j = step-at g d _ _ i e in
+    let l = lawful g d _ _ i e in
+    let q = entries (m .before .queue) in
+    let joins : vmsOf (map plain q ++ (marked v ∷ [])) ≡ entries (m .after .queue) =
+    vms-append (map plain q) (marked v ∷ []) ∙ ap (λ (x : List ℕ). x ++ (v ∷ [])) (vms-plain q) ∙ sym (l .queue ∙ ap (λ (f : Effect). affected f q) (asks-adds g v m a)) in
+    record {
+      is-queue = follows g stepOf (Reached g) (step-at g d) (lawful g d) v small fs (ticksAfter m) (m .after) j (map plain q ++ (marked v ∷ [])) joins;
+      served = wait g stepOf (Reached g) (step-at g d) (lawful g d) v small fs (ticksAfter m) (m .after) j q [] joins;
+      excused = each-of stepOf (Reached g) (step-at g d) _ (λ k c i e. excused-law g v (moment stepOf k c e) (lawful g d k c i e)) fs (ticksAfter m) (m .after) j;
+    }

@@ -1,0 +1,231 @@
+-- Behaviours that are not to pass: worthless cores, and ours with one easy mistake in it (M1 to M5).
+use Prim.Native.Nat.{suc, zero, ℕ, _%_, _+_, _-_, _^_}
+use lib.Dec.{eqb, leb, ltb}
+use lib.ListN.{getD, set}
+use mathlib.Core.Bool.{Bool, not}
+use mathlib.Core.List.{List, _∷_}
+use Rattle.basis.specs.Choice.{both, pick}
+use Rattle.config.specs.Sizes.{handlerAt, isSpare}
+use Rattle.core.specs.Changes.{answering, changedBy, deliveringFrom}
+use Rattle.core.specs.Events.{innerOf, stepOf, tickClock, tickOwner, tickQueue}
+use Rattle.core.specs.Refusals.{noNotice, refused, rowOf}
+use Rattle.core.specs.State.{idle, nobody, ownerNow, vmAt}
+use Rattle.core.specs.declared.Core.{Core}
+use Rattle.core.specs.declared.Event.the-variants.{Call, Extra, Fault, Restart, Shutdown, Start, Stop, Tick, Write}
+use Rattle.core.specs.declared.Event.{Event}
+use Rattle.core.specs.declared.Stepped.{Stepped}
+use Rattle.guest.specs.Bits.{bit}
+use Rattle.guest.specs.Deliver.{backFrom, deliver, deliverBy, quiet, shown}
+use Rattle.guest.specs.Record.{fresh, pend, savedAt, withPending, withStatus}
+use Rattle.guest.specs.declared.Delivery.{Delivery}
+use Rattle.guest.specs.declared.Found.the-variants.{At, Nothing}
+use Rattle.guest.specs.declared.Found.{Found}
+use Rattle.guest.specs.declared.Vm.{Vm}
+use Rattle.promises.specs.History.{Behaviour}
+use Rattle.queue.specs.Entries.{entries, frontOf, ofList}
+use Rattle.queue.specs.declared.Queue.{Queue}
+use Rattle.table.specs.declared.Clock.{Clock}
+use Rattle.vms.specs.Tick.{passed, runnerOf, turnTo}
+use Rattle.vms.specs.declared.Turn.{Turn}
+
+-- ---- parts
+
+abbrev pub withCore : Stepped → Core → Stepped
+withCore s c = record { core = c; answer = s .answer }
+
+abbrev pub withClock : Core → Clock → Core
+withClock c k = record { config = c .config; clock = k; running = c .running; queue = c .queue; vms = c .vms }
+
+abbrev pub withQueue : Core → Queue → Core
+withQueue c q = record { config = c .config; clock = c .clock; running = c .running; queue = q; vms = c .vms }
+
+abbrev pub withVm : Core → ℕ → Vm → Core
+withVm c v w = record { config = c .config; clock = c .clock; running = c .running; queue = c .queue; vms = set (c .vms) v w }
+
+-- the field ticksWhileRunning of a VM record
+abbrev pub withShown : Vm → ℕ → Vm
+withShown w n =
+    withStatus w
+    (record {
+      since = w .status .since;
+      left = w .status .left;
+      enabled = w .status .enabled;
+      pending = w .status .pending;
+      resume = w .status .resume;
+      reason = w .status .reason;
+      previous = w .status .previous;
+      restore = w .status .restore;
+      ontick = w .status .ontick;
+      running = n;
+    })
+
+abbrev pub isDone : Stepped → Bool
+isDone s = eqb (s .answer .refusal) 0
+
+-- what an event does, changed by f where it is a tick that was done
+abbrev pub tickThen : (Core → Stepped → Stepped) → Core → Event → Stepped
+tickThen f c Start = stepOf c Start
+tickThen f c (Tick at) = pick (isDone (stepOf c (Tick at))) (f c (stepOf c (Tick at))) (stepOf c (Tick at))
+tickThen f c (Stop v) = stepOf c (Stop v)
+tickThen f c (Shutdown v) = stepOf c (Shutdown v)
+tickThen f c (Restart v) = stepOf c (Restart v)
+tickThen f c (Extra v) = stepOf c (Extra v)
+tickThen f c (Call s n at) = stepOf c (Call s n at)
+tickThen f c (Write o x) = stepOf c (Write o x)
+tickThen f c (Fault k d) = stepOf c (Fault k d)
+
+-- ---- worthless cores
+
+-- refuses everything, with n
+abbrev pub refusesAll : ℕ → Behaviour
+refusesAll n c e = refused c n
+
+-- hands the state back untouched
+abbrev pub untouched : Behaviour
+untouched c e = record { core = c; answer = stepOf c e .answer }
+
+-- answers idle always
+abbrev pub idleAlways : Behaviour
+idleAlways c e =
+    record {
+      core = stepOf c e .core;
+      answer = record { refusal = stepOf c e .answer .refusal; running = nobody; address = 0; delivered = stepOf c e .answer .delivered; notice = stepOf c e .answer .notice; result = stepOf c e .answer .result };
+    }
+
+-- every tick does what the first did: it enters slot 0
+abbrev pub unticked : Core → Core
+unticked c = withClock c (record { started = c .clock .started; ticked = 0; slot = 0; left = 0 })
+
+abbrev pub repeatsFirst : Behaviour
+repeatsFirst = tickThen (λ c s. withCore s (withClock (s .core) (tickClock (unticked c))))
+
+-- makes ticksWhileRunning up
+abbrev pub invents : Behaviour
+invents = tickThen (λ c s. withCore s (withVm (s .core) (s .core .running) (withShown (vmAt (s .core) (s .core .running)) 7)))
+
+-- a VM that had a spare tick gets one tick less of its next slice
+abbrev pub chargesSpare : Behaviour
+chargesSpare =
+    tickThen
+    (λ c s. pick (both (isSpare (ownerNow c)) (both (not (idle c)) (eqb (ownerNow (s .core)) (c .running))))
+    (withCore s (withClock (s .core) (record { started = s .core .clock .started; ticked = 1; slot = s .core .clock .slot; left = s .core .clock .left - 1 })))
+    s)
+
+-- leaves the entries of a VM that is stopped (M4); it does not test its own soundness, so that it goes on
+abbrev pub leavesEntries : Behaviour
+leavesEntries c Start = innerOf c Start
+leavesEntries c (Tick at) = innerOf c (Tick at)
+leavesEntries c (Stop v) = withCore (innerOf c (Stop v)) (withQueue (innerOf c (Stop v) .core) (c .queue))
+leavesEntries c (Shutdown v) = innerOf c (Shutdown v)
+leavesEntries c (Restart v) = innerOf c (Restart v)
+leavesEntries c (Extra v) = innerOf c (Extra v)
+leavesEntries c (Call s n at) = innerOf c (Call s n at)
+leavesEntries c (Write o x) = innerOf c (Write o x)
+leavesEntries c (Fault k d) = innerOf c (Fault k d)
+
+-- serves the newest entry first: a request of the master's goes to the front
+abbrev pub newestFirst : Behaviour
+newestFirst c Start = stepOf c Start
+newestFirst c (Tick at) = stepOf c (Tick at)
+newestFirst c (Stop v) = stepOf c (Stop v)
+newestFirst c (Shutdown v) = stepOf c (Shutdown v)
+newestFirst c (Restart v) = stepOf c (Restart v)
+newestFirst c (Extra v) = pick (isDone (stepOf c (Extra v))) (withCore (stepOf c (Extra v)) (withQueue c (ofList (v ∷ entries (c .queue))))) (stepOf c (Extra v))
+newestFirst c (Call s n at) = stepOf c (Call s n at)
+newestFirst c (Write o x) = stepOf c (Write o x)
+newestFirst c (Fault k d) = stepOf c (Fault k d)
+
+-- forgets where a VM was interrupted, when another one runs next
+abbrev pub forgetsAddress : Behaviour
+forgetsAddress =
+    tickThen
+    (λ c s. pick (eqb (s .core .running) (c .running)) s
+    (withCore s (withVm (s .core) (c .running) (savedAt (vmAt c (c .running) .address) (vmAt (s .core) (c .running))))))
+
+-- ---- easy mistakes
+
+-- M1: counts up the guest's own copy of ticksWhileRunning
+abbrev pub raisesCopy : Behaviour
+raisesCopy = tickThen (λ c s. withCore s (withVm (s .core) (s .core .running) (withShown (vmAt (s .core) (s .core .running)) ((vmAt c (s .core .running) .status .running + 1) % 2 ^ 32))))
+
+-- M2: moves the table when a VM is stopped
+abbrev pub movesAtStop : Behaviour
+movesAtStop c Start = stepOf c Start
+movesAtStop c (Tick at) = stepOf c (Tick at)
+movesAtStop c (Stop v) = pick (isDone (stepOf c (Stop v))) (withCore (stepOf c (Stop v)) (withClock (stepOf c (Stop v) .core) (tickClock c))) (stepOf c (Stop v))
+movesAtStop c (Shutdown v) = stepOf c (Shutdown v)
+movesAtStop c (Restart v) = stepOf c (Restart v)
+movesAtStop c (Extra v) = stepOf c (Extra v)
+movesAtStop c (Call s n at) = stepOf c (Call s n at)
+movesAtStop c (Write o x) = stepOf c (Write o x)
+movesAtStop c (Fault k d) = stepOf c (Fault k d)
+
+-- ours, with another delivery d in a tick and in services 0 and 1
+abbrev pub enteringBy : (ℕ → Vm → Delivery) → ℕ → ℕ → List ℕ → List Vm → Delivery
+enteringBy d who left handlers l = pick (ltb who 8) (d (getD handlers who 0) (shown left (getD l who fresh))) (quiet (getD l who fresh))
+
+abbrev pub turnWith : (ℕ → Vm → Delivery) → ℕ → ℕ → List ℕ → List Vm → Turn
+turnWith d who left handlers l = turnTo who (enteringBy d who left handlers l) l
+
+abbrev pub tickBy : (ℕ → Vm → Delivery) → Core → ℕ → Turn
+tickBy d c at =
+    turnWith d (runnerOf (tickOwner c) (frontOf (entries (c .queue))) (passed (c .running) at (c .config .count) (c .vms))) (tickClock c .left) (c .config .handlers)
+    (passed (c .running) at (c .config .count) (c .vms))
+
+abbrev pub deliveringBy : (ℕ → Vm → Delivery) → Core → Event → Stepped
+deliveringBy d c Start = innerOf c Start
+deliveringBy d c (Tick at) =
+    pick (eqb (rowOf c (Tick at)) 0)
+    (answering (record { config = c .config; clock = tickClock c; running = tickBy d c at .who; queue = tickQueue c; vms = tickBy d c at .vms }) (tickBy d c at .number) noNotice 0)
+    (refused c (rowOf c (Tick at)))
+deliveringBy d c (Stop v) = innerOf c (Stop v)
+deliveringBy d c (Shutdown v) = innerOf c (Shutdown v)
+deliveringBy d c (Restart v) = innerOf c (Restart v)
+deliveringBy d c (Extra v) = innerOf c (Extra v)
+deliveringBy d c (Call s n at) =
+    pick (both (eqb (rowOf c (Call s n at)) 0) (leb s 1))
+    (changedBy c (deliveringFrom (c .running) (c .queue) (c .running) (d (handlerAt (c .config) (c .running)) (pick (eqb s 0) (savedAt at (vmAt c (c .running))) (backFrom (savedAt at (vmAt c (c .running))))))))
+    (innerOf c (Call s n at))
+deliveringBy d c (Write o x) = innerOf c (Write o x)
+deliveringBy d c (Fault k x) = innerOf c (Fault k x)
+
+-- M3: empties psIntPending at a delivery
+abbrev pub emptied : Vm → Found → Vm
+emptied w Nothing = w
+emptied w (At n) = withStatus w (withPending (w .status) 0)
+
+unfoldable pub deliverEmpty : ℕ → Vm → Delivery
+deliverEmpty handler v = record { vm = emptied (deliver handler v .vm) (deliver handler v .number); number = deliver handler v .number }
+
+abbrev pub emptiesPending : Behaviour
+emptiesPending = deliveringBy deliverEmpty
+
+-- M3: delivers the lowest number
+abbrev pub orElse : Found → Found → Found
+orElse Nothing y = y
+orElse (At n) y = At n
+
+unfoldable pub lowest : (ℕ → Bool) → ℕ → Found
+lowest p zero = Nothing
+lowest p (suc n) = orElse (lowest p n) (pick (p n) (At n) Nothing)
+
+unfoldable pub deliverLow : ℕ → Vm → Delivery
+deliverLow handler v = deliverBy handler v (lowest (λ n. both (bit n (v .status .pending)) (bit n (v .status .enabled))) 32)
+
+abbrev pub lowestFirst : Behaviour
+lowestFirst = deliveringBy deliverLow
+
+-- M5: delivers 11 when the master asks for the shutdown
+abbrev pub shutsAtOnce : Behaviour
+shutsAtOnce c Start = stepOf c Start
+shutsAtOnce c (Tick at) = stepOf c (Tick at)
+shutsAtOnce c (Stop v) = stepOf c (Stop v)
+shutsAtOnce c (Shutdown v) =
+    pick (isDone (stepOf c (Shutdown v)))
+    (changedBy c (deliveringFrom (c .running) (c .queue) v (deliver (handlerAt (c .config) v) (pend 11 (vmAt c v)))))
+    (stepOf c (Shutdown v))
+shutsAtOnce c (Restart v) = stepOf c (Restart v)
+shutsAtOnce c (Extra v) = stepOf c (Extra v)
+shutsAtOnce c (Call s n at) = stepOf c (Call s n at)
+shutsAtOnce c (Write o x) = stepOf c (Write o x)
+shutsAtOnce c (Fault k d) = stepOf c (Fault k d)

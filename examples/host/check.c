@@ -1,0 +1,132 @@
+/*
+ * Checks, from C, what the lines of a run do not show: that the header's structs lie in memory as the
+ * library has them, and what is answered to a state that is not sound and to a kind that is no event's.
+ * It prints what does not hold, and then how many checks passed.
+ */
+#include <stdio.h>
+#include <string.h>
+
+#include "gerstendocht.h"
+
+_Static_assert(sizeof(core_config) == 260, "core_config");
+_Static_assert(sizeof(core_vm) == 56, "core_vm");
+_Static_assert(sizeof(core_state) == 732, "core_state");
+_Static_assert(sizeof(core_input) == 12, "core_input");
+_Static_assert(sizeof(core_answer) == 24, "core_answer");
+_Static_assert(sizeof(core_stepped) == 756, "core_stepped");
+_Static_assert(sizeof(core_begun) == 752, "core_begun");
+
+static unsigned passed, failed;
+
+static void check(const char *what, int holds)
+{
+    if (holds) {
+        passed++;
+    } else {
+        failed++;
+        printf("does not hold: %s\n", what);
+    }
+}
+
+/* X1 of the rules. */
+static const uint8_t image[] = {1, 2, 1,    2, 0,    0x10, 0, 0, 4, 0x10, 0, 0, 2, 0, 0x20, 0, 0, 4,
+                                0x20, 0, 0, 3, 0, 2, 0,    3, 1, 1, 0,    3, 0xff, 1, 0, 4};
+
+/* A legal image with as much of everything as there may be: 8 VMs, a queue of 16, 64 slots. */
+static size_t full_image(uint8_t *b)
+{
+    size_t n = 0;
+    b[n++] = 1, b[n++] = 8, b[n++] = 16;
+    for (int i = 0; i < 8; i++) {
+        const uint8_t vm[] = {2, (uint8_t)i, 1, 2, 3, (uint8_t)i, 5, 6, 7};
+        memcpy(b + n, vm, sizeof vm);
+        n += sizeof vm;
+    }
+    for (int i = 0; i < 64; i++) {
+        const uint8_t slot[] = {3, (uint8_t)(i % 8), (uint8_t)(100 + i), 1};
+        memcpy(b + n, slot, sizeof slot);
+        n += sizeof slot;
+    }
+    b[n++] = 4;
+    return n;
+}
+
+static core_answer send(core_state *core, uint8_t kind, uint8_t byte, uint32_t word, uint32_t next)
+{
+    core_input event = {.kind = kind, .byte = byte, .word = word, .next = next};
+    core_stepped after = core_step(*core, event);
+    core_answer a = core_live(core, event), b = after.answer;
+    check("both forms answer the same", a.refusal == b.refusal && a.running == b.running && a.address == b.address &&
+        a.delivered == b.delivered && a.notice.kind == b.notice.kind && a.notice.vm == b.notice.vm &&
+        a.notice.code == b.notice.code && a.notice.data == b.notice.data && a.result == b.result);
+    check("both forms leave the same VM", core->running == after.core.running);
+    return a;
+}
+
+static void worked_run(void)
+{
+    core_begun begun = core_fresh(image, sizeof image);
+    core_state core = begun.core;
+    check("no fault", begun.fault == 0 && begun.offset == 0);
+    send(&core, CORE_START, 0, 0, 0);
+    send(&core, CORE_TICK, 0, 0, 0);
+    send(&core, CORE_WRITE, 8, 0x88, 0);
+    send(&core, CORE_WRITE, 32, 0x80, 0);
+    send(&core, CORE_TICK, 0, 0x1010, 0);
+    send(&core, CORE_CALL, 1, 0, 0x1040);
+    send(&core, CORE_CALL, 4, 0, 0x1014);
+    check("the queue has VM 0", core.queue.len == 1 && core.queue.items[0] == 0);
+    send(&core, CORE_CALL, 4, 0, 0x1018);
+    send(&core, CORE_TICK, 0, 0x1020, 0);
+    send(&core, CORE_TICK, 0, 0x2008, 0);
+    core_status s = core.vms[0].status;
+    check("P1", s.since == 4 && s.left == 1 && s.enabled == 0 && s.pending == 0 && s.resume == 0x1020 &&
+        s.reason == 7 && s.previous == 0x88 && s.restore == 0 && s.ontick == 0x80 && s.running == 3);
+    check("the clock", core.clock.started == 1 && core.clock.ticked == 1 && core.clock.slot == 2 && core.clock.left == 1);
+    core_answer a = send(&core, CORE_FAULT, 4, 0xabcdef01, 0);
+    check("the notice of a Fault", a.notice.kind == 3 && a.notice.vm == 0 && a.notice.code == 4 && a.notice.data == 0xabcdef01);
+    check("VM 0 is in error", core.vms[0].standing == CORE_ERROR && core.running == CORE_NONE);
+    a = send(&core, 0x19, 0, 0, 0);
+    check("a kind that is no event's", a.refusal == 10 && a.running == CORE_NONE && a.address == 0 && a.delivered == CORE_NONE);
+    core.vms[7].ran = 1;
+    a = send(&core, CORE_TICK, 0, 0, 0);
+    check("a state that is not sound", a.refusal == 1 && a.running == CORE_NONE && core.vms[7].ran == 1);
+    a = send(&core, 0, 0, 0, 0);
+    check("no event on such a state", a.refusal == 1);
+}
+
+static void full_run(void)
+{
+    uint8_t b[332];
+    core_begun begun = core_fresh(b, full_image(b));
+    core_state core = begun.core;
+    check("332 bytes are read", begun.fault == 0 && core.config.count == 8 && core.config.room == 16 && core.config.slots == 64);
+    int same = 1;
+    for (unsigned i = 0; i < 8; i++)
+        same &= core.config.entries[i] == 0x03020100u + i && core.config.handlers[i] == 0x07060500u + i;
+    for (unsigned i = 0; i < 64; i++)
+        same &= core.config.owners[i] == i % 8 && core.config.durations[i] == 356 + i;
+    check("each place of the configuration", same);
+    send(&core, CORE_START, 0, 0, 0);
+    for (uint8_t i = 0; i < 16; i++)
+        send(&core, CORE_EXTRA, 7 - i % 8, 0, 0);
+    check("the last place of the queue", core.queue.len == 16 && core.queue.items[0] == 7 && core.queue.items[15] == 0);
+    send(&core, CORE_TICK, 0, 0, 0);
+    same = 1;
+    for (int i = 0; i < 8; i++)
+        same &= core.vms[i].standing == CORE_READY && core.vms[i].address == 0x03020100u + (unsigned)i &&
+            core.vms[i].age == 1 && core.vms[i].ran == (i == 0);
+    check("each VM record", same && core.running == 0 && core.vms[0].status.left == 356);
+    begun = core_fresh(b, 331);
+    check("the fault of a cut image", begun.fault == 20 && begun.offset == 331);
+    core = begun.core;
+    check("the core beside a fault", send(&core, CORE_START, 0, 0, 0).refusal == 1);
+}
+
+int main(void)
+{
+    worked_run();
+    full_run();
+    printf("%u checks passed, %u failed\n", passed, failed);
+    return failed != 0;
+}
