@@ -1,6 +1,6 @@
 // The core: its state, whether it is sound, and every event as a method that takes the state by value.
 mod changes;
-mod events;
+mod public;
 mod rows;
 mod sound;
 mod steps;
