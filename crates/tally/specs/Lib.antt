@@ -1,0 +1,5 @@
+pub mod Logs
+pub mod Figures
+pub mod Report
+pub mod Counting
+pub mod Adds
