@@ -1,4 +1,5 @@
-//! Cases through the programs that read files: `runlog`, and `statelog` if it is given.
+//! Cases through the programs that read files: `runlog`, and `statelog` if it is given; and the folder
+//! in which every such program is run.
 
 use std::fs;
 use std::io::{self, Read};
@@ -7,7 +8,7 @@ use std::process::Stdio;
 
 use crate::child::CommandLine;
 use crate::compare_stream::Trouble;
-use crate::difference::Difference;
+use crate::difference::{Difference, Subject};
 use crate::flaw::Flaw;
 use crate::frames::Case;
 use crate::limits::MAX_LOG_BYTES;
@@ -19,6 +20,17 @@ pub struct FileCase {
     pub title: String,
     pub image: Option<Vec<u8>>,
     pub log: Option<Vec<u8>>,
+}
+
+impl FileCase {
+    fn write_into(&self, folder: &Path) -> io::Result<()> {
+        for (name, content) in [("config.bin", &self.image), ("events.bin", &self.log)] {
+            if let Some(bytes) = content {
+                fs::write(folder.join(name), bytes)?;
+            }
+        }
+        Ok(())
+    }
 }
 
 /// Runs that only files can show: missing ones, and ones too long for a frame.
@@ -61,18 +73,27 @@ impl Workplace {
         Ok(Workplace { folder })
     }
 
-    fn put(&self, name: &str, content: Option<&[u8]>) -> io::Result<()> {
-        let path = self.folder.join(name);
-        match content {
-            Some(bytes) => fs::write(path, bytes),
-            None if path.exists() => fs::remove_file(path),
-            None => Ok(()),
-        }
+    /// Empties the folder, so that nothing of the case before is left, and has it filled.
+    pub fn fill(&self, write: impl FnOnce(&Path) -> io::Result<()>) -> Result<(), Trouble> {
+        let emptied = fs::remove_dir_all(&self.folder).and_then(|()| fs::create_dir(&self.folder));
+        let filled = emptied.and_then(|()| write(&self.folder));
+        filled.map_err(|error| Trouble::Failure(format!("cannot write the files of a case: {error}")))
     }
 
-    fn fill(&self, files: &FileCase) -> io::Result<()> {
-        self.put("config.bin", files.image.as_deref())?;
-        self.put("events.bin", files.log.as_deref())
+    /// Runs a program on the files that are here and compares its whole output.
+    pub fn compare(
+        &self,
+        command: &CommandLine,
+        expected: Vec<u8>,
+        title: String,
+        subject: impl FnOnce() -> Subject,
+    ) -> Result<(), Trouble> {
+        let (got, remark) = output_of(command, &self.folder, expected.len())?;
+        if remark.is_empty() && got == expected {
+            return Ok(());
+        }
+        let subject = subject();
+        Err(Trouble::Difference(Box::new(Difference { title, subject, expected, got, remark })))
     }
 }
 
@@ -91,18 +112,12 @@ pub struct FileProgram {
 
 /// Runs one program on one set of files and compares the whole output.
 pub fn compare_files(program: &FileProgram, place: &Workplace, files: &FileCase) -> Result<(), Trouble> {
-    let filled = place.fill(files);
-    filled.map_err(|error| Trouble::Failure(format!("cannot write the files of a case: {error}")))?;
+    place.fill(|folder| files.write_into(folder))?;
     let image = files.image.clone().unwrap_or_default();
     let log = files.log.clone().unwrap_or_default();
     let expected = run_text(&image, &log, program.detail, Flaw::None);
-    let (got, remark) = output_of(&program.command, &place.folder, expected.len())?;
-    if remark.is_empty() && got == expected {
-        return Ok(());
-    }
     let title = format!("{}, program {}", files.title, program.name);
-    let case = Case { image, log };
-    Err(Trouble::Difference(Box::new(Difference { title, case, expected, got, remark })))
+    place.compare(&program.command, expected, title, || Subject::Run(Case { image, log }))
 }
 
 fn output_of(command: &CommandLine, folder: &Path, length: usize) -> Result<(Vec<u8>, String), Trouble> {

@@ -5,7 +5,7 @@ use std::process::{ChildStdout, Stdio};
 use std::thread;
 
 use crate::child::{CommandLine, Running};
-use crate::difference::Difference;
+use crate::difference::{Difference, Subject};
 use crate::flaw::Flaw;
 use crate::frames::{answer_stream, frame_of, Case};
 use crate::run_text::many_text;
@@ -46,7 +46,8 @@ pub fn compare_batch(command: &CommandLine, first: usize, cases: &[Case]) -> Res
     let expected = many_text(&case.image, &case.log, Flaw::None);
     let got = got.unwrap_or_else(|| expected.clone());
     let title = format!("case {}, program many", first + index);
-    Err(Trouble::Difference(Box::new(Difference { title, case, expected, got, remark })))
+    let subject = Subject::Run(case);
+    Err(Trouble::Difference(Box::new(Difference { title, subject, expected, got, remark })))
 }
 
 /// A case by its index here, and what the program said about it.
@@ -114,6 +115,6 @@ pub fn compare_stream(command: &CommandLine, stream: &[u8], whole: &Case) -> Res
         return Ok(());
     }
     let title = format!("a stream of {} bytes, program many", stream.len());
-    let case = whole.clone();
-    Err(Trouble::Difference(Box::new(Difference { title, case, expected, got, remark })))
+    let subject = Subject::Run(whole.clone());
+    Err(Trouble::Difference(Box::new(Difference { title, subject, expected, got, remark })))
 }

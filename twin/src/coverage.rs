@@ -171,8 +171,13 @@ impl Coverage {
 
     /// The points that were never reached.
     pub fn missing(&self) -> Vec<String> {
-        self.points().into_iter().filter(|(_, count)| *count == 0).map(|(name, _)| name).collect()
+        never_reached(self.points())
     }
+}
+
+/// The names of the points whose count is 0.
+pub fn never_reached(points: Vec<(String, u64)>) -> Vec<String> {
+    points.into_iter().filter(|(_, count)| *count == 0).map(|(name, _)| name).collect()
 }
 
 fn kind_index(event: Event) -> usize {

@@ -7,23 +7,26 @@ use crate::image_read::{image_body_length, ImageFault, KIND_CORE, KIND_SLOT};
 use crate::limits::{MAX_IMAGE_BYTES, MAX_LOG_BYTES, MAX_QUEUE, MAX_SLOTS, MAX_SLOT_TICKS, MAX_VMS};
 use crate::state::{Standing, PENDING, TICKS_WHILE_RUNNING};
 
+/// An enum of points to reach, each with the name that it is told by.
 macro_rules! marks {
-    ($($mark:ident = $name:expr,)*) => {
+    ($kind:ident: $($mark:ident = $name:expr,)*) => {
         #[derive(Clone, Copy, Debug, PartialEq, Eq)]
-        pub enum Mark { $($mark,)* }
+        pub enum $kind { $($mark,)* }
 
-        impl Mark {
-            pub const ALL: [Mark; [$($name),*].len()] = [$(Mark::$mark),*];
-            pub const COUNT: usize = Mark::ALL.len();
+        impl $kind {
+            pub const ALL: [$kind; [$($name),*].len()] = [$($kind::$mark),*];
+            pub const COUNT: usize = $kind::ALL.len();
 
             pub fn name(self) -> &'static str {
-                match self { $(Mark::$mark => $name,)* }
+                match self { $($kind::$mark => $name,)* }
             }
         }
     };
 }
+pub(crate) use marks;
 
 marks! {
+    Mark:
     EmptyImage = "image: empty",
     FullImage = "image: 332 bytes, accepted",
     LongerImage = "image: over 332 bytes",

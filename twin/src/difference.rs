@@ -1,4 +1,4 @@
-//! A difference between two texts of a run: where it is, how it is shown, and its files.
+//! A difference between two texts of a run or a report: where it is, how it is shown, and its files.
 
 use std::fs;
 use std::io;
@@ -6,14 +6,22 @@ use std::path::{Path, PathBuf};
 
 use crate::frames::Case;
 use crate::log_codec::{read_record, Record};
+use crate::report_folder::ReportFolder;
 use crate::text_print::{event_line, text_of};
+
+/// The files that a difference is about.
+#[derive(Clone, Debug)]
+pub enum Subject {
+    Run(Case),
+    Report(ReportFolder),
+}
 
 /// Two texts that should have been the same.
 #[derive(Clone, Debug)]
 pub struct Difference {
     /// The program and the case, in words.
     pub title: String,
-    pub case: Case,
+    pub subject: Subject,
     pub expected: Vec<u8>,
     pub got: Vec<u8>,
     /// What else was wrong, if something was.
@@ -32,6 +40,9 @@ pub struct Parting {
 }
 
 const NOTHING: &str = "(nothing)";
+
+/// More lines than a right report can have.
+const LINES_SHOWN: usize = 20;
 
 /// Finds the first differing line, and the answers of its event in both texts.
 pub fn first_parting(expected: &[u8], got: &[u8]) -> Parting {
@@ -80,10 +91,22 @@ fn event_text(log: &[u8], number: u64) -> String {
     String::from("(no event)")
 }
 
+/// A whole output, which a report keeps short; of a wrong one no more than its first lines.
+fn shown_whole(name: &str, output: &[u8]) -> String {
+    let mut text = format!("  {name}:\n");
+    let mut lines = output.split_inclusive(|byte| *byte == b'\n').peekable();
+    if lines.peek().is_none() {
+        text += &format!("    {NOTHING}\n");
+    }
+    for line in lines.take(LINES_SHOWN) {
+        text += &format!("    {}\n", shown(Some(line)));
+    }
+    text
+}
+
 impl Difference {
     /// The report for the one who reads it.
     pub fn report(&self, seed: u64) -> String {
-        let parting = first_parting(&self.expected, &self.got);
         let mut text = format!("difference: seed {seed}, {}\n", self.title);
         if !self.remark.is_empty() {
             text += &format!("  {}\n", self.remark);
@@ -91,8 +114,20 @@ impl Difference {
         if self.expected == self.got {
             return text;
         }
+        match &self.subject {
+            Subject::Run(case) => text + &self.shown_events(&case.log),
+            Subject::Report(_) => {
+                text + &shown_whole("expected", &self.expected) + &shown_whole("got", &self.got)
+            }
+        }
+    }
+
+    /// The first event whose answers differ.
+    fn shown_events(&self, log: &[u8]) -> String {
+        let parting = first_parting(&self.expected, &self.got);
+        let mut text = String::new();
         if parting.event > 0 {
-            let event = event_text(&self.case.log, parting.event);
+            let event = event_text(log, parting.event);
             text += &format!("  first differing event: {}: {event}\n", parting.event);
             text += &format!("  expected answer: {}\n", parting.expected_answer);
             text += &format!("  got answer:      {}\n", parting.got_answer);
@@ -100,18 +135,22 @@ impl Difference {
             text += "  differs before the first event\n";
         }
         text += &format!("  expected line:   {}\n", parting.expected_line);
-        text += &format!("  got line:        {}\n", parting.got_line);
-        text
+        text + &format!("  got line:        {}\n", parting.got_line)
     }
 
     /// Writes the files of the case into a folder of its own, and answers which.
     pub fn keep(&self, folder: &Path, seed: u64) -> io::Result<PathBuf> {
         let words: Vec<&str> = self.title.split([' ', ',']).filter(|word| !word.is_empty()).collect();
         let folder = folder.join(format!("seed-{seed}-{}", words.join("-")));
-        fs::create_dir_all(&folder)?;
-        fs::write(folder.join("config.bin"), &self.case.image)?;
-        fs::write(folder.join("events.bin"), &self.case.log)?;
-        fs::write(folder.join("run.txt"), text_of(&self.case))?;
+        match &self.subject {
+            Subject::Report(files) => files.write_into(&folder)?,
+            Subject::Run(case) => {
+                fs::create_dir_all(&folder)?;
+                fs::write(folder.join("config.bin"), &case.image)?;
+                fs::write(folder.join("events.bin"), &case.log)?;
+                fs::write(folder.join("run.txt"), text_of(case))?;
+            }
+        }
         fs::write(folder.join("expected"), &self.expected)?;
         fs::write(folder.join("got"), &self.got)?;
         Ok(folder)

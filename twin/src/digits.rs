@@ -1,4 +1,4 @@
-//! Decimal and hexadecimal digits, appended to a text of bytes.
+//! Decimal and hexadecimal digits, and words with numbers behind them, appended to a text of bytes.
 
 const HEX: &[u8; 16] = b"0123456789abcdef";
 
@@ -17,6 +17,15 @@ pub fn push_decimal(text: &mut Vec<u8>, number: u64) {
         rest /= 10;
     }
     text.extend_from_slice(&digits[first..]);
+}
+
+/// A word and decimal numbers behind it, without the end of the line.
+pub fn push_words(text: &mut Vec<u8>, word: &[u8], numbers: &[u64]) {
+    text.extend_from_slice(word);
+    for number in numbers {
+        text.push(b' ');
+        push_decimal(text, *number);
+    }
 }
 
 /// A 32-bit number as eight hexadecimal digits.

@@ -12,7 +12,7 @@ use crate::limits::{MAX_LOG_BYTES, MAX_QUEUE, MAX_SLOTS, MAX_VMS};
 use crate::log_codec::{event_body_length, log_of, KIND_FAULT, KIND_START};
 use crate::random::Random;
 
-const TICK: Event = Event::Tick { address: 0x1010 };
+pub const TICK: Event = Event::Tick { address: 0x1010 };
 
 /// Every edge case, in a fixed order.
 pub fn edge_cases(random: &mut Random) -> Vec<Case> {
@@ -45,7 +45,7 @@ fn scripted(config: &Config, events: &[Event]) -> Case {
 }
 
 /// A table of one tick for each VM and a spare tick behind them.
-fn small(vm_count: u8, queue_size: u8) -> Config {
+pub fn small(vm_count: u8, queue_size: u8) -> Config {
     let mut config = Config::zero();
     (config.vm_count, config.queue_size, config.slot_count) = (vm_count, queue_size, vm_count + 1);
     for vm in 0..vm_count {
@@ -283,26 +283,30 @@ fn image_edges() -> Vec<Case> {
     ]
 }
 
-/// Every event kind with every length of body that is too short, and unknown kinds.
 fn cut_logs() -> Vec<Case> {
     let image = image_bytes(&small(1, 1), Flaw::None);
-    let with_tail = |tail: &[u8]| {
-        let log = [log_of(&[Event::Start, TICK]), tail.to_vec()].concat();
+    let with_tail = |tail: Vec<u8>| {
+        let log = [log_of(&[Event::Start, TICK]), tail].concat();
         Case { image: image.clone(), log }
     };
-    let mut cases = Vec::new();
+    cut_tails().into_iter().map(with_tail).collect()
+}
+
+/// What cannot be read: every event kind with every length of body that is too short, and unknown kinds.
+pub fn cut_tails() -> Vec<Vec<u8>> {
+    let mut tails = Vec::new();
     for kind in KIND_START..=KIND_FAULT {
         for length in 0..event_body_length(kind).unwrap_or(0) {
             let mut tail = vec![kind];
             tail.extend(vec![3; length]);
-            cases.push(with_tail(&tail));
+            tails.push(tail);
         }
     }
     for kind in [0x00, 0x0f, 0x19, 0x1a, 0x1b, 0x1c, 0x80, 0xff] {
-        cases.push(with_tail(&[kind, 0x10, 0x10, 0x10, 0x10, 0x10]));
-        cases.push(with_tail(&[kind]));
+        tails.push(vec![kind, 0x10, 0x10, 0x10, 0x10, 0x10]);
+        tails.push(vec![kind]);
     }
-    cases
+    tails
 }
 
 /// A case with a configuration of its own and a log that fits it.

@@ -26,17 +26,39 @@ pub enum Flaw {
     RestartStopsRunning,
     BodyBeforeKind,
     SlotNameBeforeCount,
+    CarriesState,
+    CarriesPlace,
+    SkipsMissingLog,
+    EmptyLogEndsList,
+    CutEndsList,
+    CutLogAddsNothing,
+    LongLogEndsList,
+    LongLogIsRun,
+    LargestLogIsTooLong,
+    ReadsSeventeenLogs,
+    IdleWithoutMissed,
+    RefusedTicksCount,
+    PlaceCountsRefused,
+    SpareAsTable,
+    MissedAsTable,
+    SpareIdleIsMissed,
+    StoppedHasNotRun,
+    TableBySlots,
+    NoRowForLastVm,
 }
 
+/// Wrong twins, each with what it does wrong.
+pub type Wrong = [(Flaw, &'static str)];
+
 impl Flaw {
-    /// The wrong twin of this name.
-    pub fn named(name: &str) -> Result<Flaw, String> {
-        let found = Flaw::WRONG.iter().find(|(flaw, _)| format!("{flaw:?}") == name);
+    /// The wrong twin of this name among some of them.
+    pub fn named(wrong: &Wrong, name: &str) -> Result<Flaw, String> {
+        let found = wrong.iter().find(|(flaw, _)| format!("{flaw:?}") == name);
         found.map(|(flaw, _)| *flaw).ok_or(format!("there is no wrong twin '{name}'"))
     }
 
-    /// Every wrong twin, with what it does wrong.
-    pub const WRONG: [(Flaw, &'static str); 22] = [
+    /// Every wrong twin of a run.
+    pub const WRONG_RUNS: [(Flaw, &'static str); 22] = [
         (Flaw::GuestClock, "raises the guest's own copy of ticksWhileRunning"),
         (Flaw::SpareChargedToSlice, "charges a spare tick to the VM's next slice"),
         (Flaw::StopMovesTable, "moves the table on when the running VM is stopped"),
@@ -59,5 +81,28 @@ impl Flaw {
         (Flaw::RestartStopsRunning, "takes the core from a running VM at its Restart"),
         (Flaw::BodyBeforeKind, "reads the body of an image record before it judges the kind"),
         (Flaw::SlotNameBeforeCount, "tests the name of a 65th slot before the count"),
+    ];
+
+    /// Every wrong twin of a report.
+    pub const WRONG_REPORTS: [(Flaw, &'static str); 19] = [
+        (Flaw::CarriesState, "carries the state of the core from log to log"),
+        (Flaw::CarriesPlace, "carries the place in the table from log to log"),
+        (Flaw::SkipsMissingLog, "skips a missing log in place of ending the list"),
+        (Flaw::EmptyLogEndsList, "ends the list at a log without a byte"),
+        (Flaw::CutEndsList, "ends the list at a log that is cut"),
+        (Flaw::CutLogAddsNothing, "leaves out what a log holds before its cut"),
+        (Flaw::LongLogEndsList, "ends the list at a log that is too long"),
+        (Flaw::LongLogIsRun, "runs a log that is too long"),
+        (Flaw::LargestLogIsTooLong, "leaves out a log of 60,000 bytes"),
+        (Flaw::ReadsSeventeenLogs, "reads a seventeenth log"),
+        (Flaw::IdleWithoutMissed, "leaves the missed ticks out of the idle ones"),
+        (Flaw::RefusedTicksCount, "counts refused ticks"),
+        (Flaw::PlaceCountsRefused, "moves the place in the table at a refused tick"),
+        (Flaw::SpareAsTable, "counts a spare tick as a table tick"),
+        (Flaw::MissedAsTable, "counts a missed tick as a table tick"),
+        (Flaw::SpareIdleIsMissed, "counts an idle spare tick as missed by the VM of the tick before"),
+        (Flaw::StoppedHasNotRun, "takes the tick from a VM that ends within it"),
+        (Flaw::TableBySlots, "goes through the table slot by slot, whatever their durations"),
+        (Flaw::NoRowForLastVm, "prints no row for the last VM"),
     ];
 }

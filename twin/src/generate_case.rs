@@ -58,7 +58,7 @@ fn random_case(random: &mut Random) -> Case {
 }
 
 /// Mostly short runs, some middling ones, a few of several hundred steps.
-fn steps(random: &mut Random) -> usize {
+pub fn steps(random: &mut Random) -> usize {
     match random.below(10) {
         0..=4 => random.between(3, 40),
         5..=8 => random.between(40, 150),
@@ -93,7 +93,7 @@ fn with_cut_log(random: &mut Random) -> Case {
 }
 
 /// Changes, cuts out or puts in single bytes.
-fn change_bytes(random: &mut Random, bytes: &mut Vec<u8>, changes: usize) {
+pub fn change_bytes(random: &mut Random, bytes: &mut Vec<u8>, changes: usize) {
     for _ in 0..changes {
         let at = random.below(bytes.len() + 1);
         let value = if random.percent(50) { random.below(32) as u8 } else { random.byte() };

@@ -1,4 +1,4 @@
-//! The sizes of a core, its image and its event log (rules S1 to S4 and S9).
+//! The sizes of a core, its image, its event log and a report (rules S1 to S4, S9 and N13).
 
 pub const MAX_VMS: usize = 8;
 pub const MAX_QUEUE: usize = 16;
@@ -6,3 +6,4 @@ pub const MAX_SLOTS: usize = 64;
 pub const MAX_SLOT_TICKS: u16 = 1_000;
 pub const MAX_IMAGE_BYTES: usize = 332;
 pub const MAX_LOG_BYTES: usize = 60_000;
+pub const MAX_REPORT_LOGS: usize = 16;

@@ -4,7 +4,9 @@ use crate::config::SPARE;
 use crate::event::Event;
 use crate::frames::Case;
 use crate::image_read::{KIND_CORE, KIND_END, KIND_SLOT, KIND_VM};
+use crate::limits::MAX_REPORT_LOGS;
 use crate::log_codec::write_record;
+use crate::report_folder::ReportFolder;
 
 /// What is wrong with a text, and in which line (from 1).
 #[derive(Debug, PartialEq, Eq)]
@@ -15,27 +17,46 @@ pub struct TextError {
 
 /// The image and the log that a text describes.
 pub fn case_of(text: &str) -> Result<Case, TextError> {
-    let mut case = Case::default();
-    let mut in_log = false;
+    let Parts { image, mut logs } = parts_of(text, 1)?;
+    Ok(Case { image, log: logs.pop().unwrap_or_default() })
+}
+
+/// The image and the logs that a text describes.
+pub fn report_folder_of(text: &str) -> Result<ReportFolder, TextError> {
+    let Parts { image, logs } = parts_of(text, MAX_REPORT_LOGS)?;
+    Ok(ReportFolder::of(&image, logs))
+}
+
+/// The bytes of the image, and of each log in order.
+#[derive(Default)]
+struct Parts {
+    image: Vec<u8>,
+    logs: Vec<Vec<u8>>,
+}
+
+fn parts_of(text: &str, most_logs: usize) -> Result<Parts, TextError> {
+    let mut parts = Parts::default();
     for (index, line) in text.lines().enumerate() {
         let mut words = Words::of(line);
         let Some(word) = words.next() else {
             continue;
         };
-        let outcome = match (word, in_log) {
-            ("log", false) => {
-                in_log = true;
+        let room = parts.logs.len() < most_logs;
+        let outcome = match (word, parts.logs.last_mut()) {
+            ("log", _) if room => {
+                parts.logs.push(Vec::new());
                 Ok(())
             }
-            ("raw", false) => push_raw(&mut words, &mut case.image),
-            ("raw", true) => push_raw(&mut words, &mut case.log),
-            (_, false) => push_image_record(word, &mut words, &mut case.image),
-            (_, true) => event_of(word, &mut words).map(|event| write_record(event, &mut case.log)),
+            ("log", _) => Err(unknown(word, &format!("no more logs than {most_logs}"))),
+            ("raw", None) => push_raw(&mut words, &mut parts.image),
+            ("raw", Some(log)) => push_raw(&mut words, log),
+            (_, None) => push_image_record(word, &mut words, &mut parts.image),
+            (_, Some(log)) => event_of(word, &mut words).map(|event| write_record(event, log)),
         };
         let done = outcome.and_then(|()| words.finish());
         done.map_err(|message| TextError { line: index + 1, message })?;
     }
-    Ok(case)
+    Ok(parts)
 }
 
 fn push_image_record(word: &str, words: &mut Words, image: &mut Vec<u8>) -> Result<(), String> {

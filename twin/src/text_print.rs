@@ -7,13 +7,25 @@ use crate::event::Event;
 use crate::frames::Case;
 use crate::image_read::{image_body_length, KIND_CORE, KIND_END, KIND_SLOT, KIND_VM};
 use crate::log_codec::{read_record, Record};
+use crate::report_folder::ReportFolder;
 
 /// The text of an image and a log. Packing it gives the same bytes again, whatever they are.
 pub fn text_of(case: &Case) -> String {
+    text_of_parts(&case.image, [case.log.as_slice()])
+}
+
+/// The text of an image and the logs that a report reads.
+pub fn report_folder_text(folder: &ReportFolder) -> String {
+    text_of_parts(folder.image_bytes(), folder.listed().iter().map(Vec::as_slice))
+}
+
+fn text_of_parts<'a>(image: &[u8], logs: impl IntoIterator<Item = &'a [u8]>) -> String {
     let mut text = String::new();
-    print_image(&mut text, &case.image);
-    text.push_str("\nlog\n");
-    print_log(&mut text, &case.log);
+    print_image(&mut text, image);
+    for log in logs {
+        text.push_str("\nlog\n");
+        print_log(&mut text, log);
+    }
     text
 }
 

@@ -4,30 +4,10 @@ mod common;
 
 use std::fs;
 use std::io::Write;
-use std::path::{Path, PathBuf};
 use std::process::{Command, Stdio};
 
-use common::{worked_case, worked_lines};
+use common::{folder, shown, twin, worked_case, worked_lines};
 use twin::text_print::text_of;
-
-/// Exit status, standard output, standard error.
-fn twin(arguments: &[&str]) -> (Option<i32>, String, String) {
-    let output = Command::new(env!("CARGO_BIN_EXE_twin")).args(arguments).output().expect("the twin starts");
-    let text = |bytes| String::from_utf8(bytes).expect("a text");
-    (output.status.code(), text(output.stdout), text(output.stderr))
-}
-
-/// An empty folder of its own for a test.
-fn folder(name: &str) -> PathBuf {
-    let path = PathBuf::from(env!("CARGO_TARGET_TMPDIR")).join(name);
-    let _ = fs::remove_dir_all(&path);
-    fs::create_dir_all(&path).expect("a folder can be made");
-    path
-}
-
-fn shown(path: &Path) -> &str {
-    path.to_str().expect("a plain path")
-}
 
 #[test]
 fn pack_run_state_and_unpack() {
@@ -85,7 +65,7 @@ fn many_answers_a_torn_stream() {
 
 #[test]
 fn wrong_arguments_are_named() {
-    let wrong: [(&[&str], &str); 8] = [
+    let wrong: [(&[&str], &str); 12] = [
         (&[], "no command given"),
         (&["fly"], "'fly' is not a command"),
         (&["pack", "one"], "'pack' has other arguments"),
@@ -94,6 +74,10 @@ fn wrong_arguments_are_named() {
         (&["compare", "--speed", "1"], "'--speed' is not an option of this command"),
         (&["selftest", "--seed", "x", "--cases", "1"], "--seed: 'x' is not a number"),
         (&["many", "--wrong", "Nothing"], "there is no wrong twin 'Nothing'"),
+        (&["many", "--wrong", "CarriesPlace"], "there is no wrong twin 'CarriesPlace'"),
+        (&["report", "--wrong", "GuestClock"], "there is no wrong twin 'GuestClock'"),
+        (&["report", "one", "two", "three"], "'report' has other arguments"),
+        (&["pack-logs", "one"], "'pack-logs' has other arguments"),
     ];
     for (arguments, words) in wrong {
         let (status, output, message) = twin(arguments);

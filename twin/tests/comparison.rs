@@ -5,7 +5,11 @@ use std::process::Command;
 
 use twin::coverage::Coverage;
 use twin::difference::first_parting;
+use twin::edge_reports::edge_reports;
+use twin::flaw::Flaw;
 use twin::generate_case::CaseMaker;
+use twin::report_coverage::ReportCoverage;
+use twin::report_folder::ReportFolder;
 use twin::selftest::selftest;
 
 const TWIN: &str = env!("CARGO_BIN_EXE_twin");
@@ -17,11 +21,26 @@ struct Outcome {
 
 fn compare(name: &str, many: &str, runlog: &str, cases: &str) -> (Outcome, PathBuf) {
     let patience = if many.starts_with("sleep") { "1" } else { "60" };
+    compare_with(name, &["--cases", cases, "--many", many, "--runlog", runlog, "--patience", patience])
+}
+
+/// A comparison of reports, by right programs otherwise.
+fn compare_reports(name: &str, report: &str, cases: &str, patience: &str) -> (Outcome, PathBuf) {
+    let (many, runlog) = (format!("{TWIN} many"), format!("{TWIN} run"));
+    let runs = ["--cases", cases, "--many", &many, "--runlog", &runlog];
+    compare_with(
+        name,
+        &[&runs[..], &["--report", report, "--reports", "60", "--patience", patience]].concat(),
+    )
+}
+
+fn compare_with(name: &str, options: &[&str]) -> (Outcome, PathBuf) {
     let keep = PathBuf::from(env!("CARGO_TARGET_TMPDIR")).join(name);
     let _ = std::fs::remove_dir_all(&keep);
     let output = Command::new(TWIN)
-        .args(["compare", "--seed", "4", "--cases", cases, "--many", many, "--runlog", runlog])
-        .args(["--files", "20", "--patience", patience, "--keep"])
+        .args(["compare", "--seed", "4", "--files", "20"])
+        .args(options)
+        .arg("--keep")
         .arg(&keep)
         .output()
         .expect("the twin starts");
@@ -37,7 +56,57 @@ fn the_twin_agrees_with_itself_and_reaches_every_point() {
     let last = outcome.text.lines().last().expect("some lines");
     assert!(last.starts_with("twin: 200 cases, ") && last.ends_with(" events, no difference"), "{last}");
     assert!(outcome.text.contains("runlog: 32 runs with files"));
+    assert!(!outcome.text.contains("report"), "no reports were asked for");
     assert!(!keep.exists());
+}
+
+#[test]
+fn the_reports_of_the_twin_agree_with_themselves_and_reach_every_point() {
+    let (outcome, keep) = compare_reports("right-report", &format!("{TWIN} report"), "140", "60");
+    assert!(outcome.well, "{}", outcome.text);
+    let folders = 60 + edge_reports(4).len();
+    assert!(outcome.text.contains(&format!("\nreport: {folders} folders, ")), "{}", outcome.text);
+    assert!(outcome.text.contains("report: sixteen logs = "), "{}", outcome.text);
+    assert!(outcome.text.ends_with(" events, no difference\n"), "{}", outcome.text);
+    assert!(!keep.exists());
+}
+
+#[test]
+fn a_wrong_report_is_reported_and_its_files_are_kept() {
+    let report = format!("{TWIN} report --wrong SkipsMissingLog");
+    let (outcome, keep) = compare_reports("wrong-report", &report, "1", "60");
+    assert!(!outcome.well);
+    let shown = "difference: seed 4, log 2 missing, program report\n  \
+                 expected:\n    0 8 1 0\n    1 1 0 1\n    2 2 0 0\n    idle 2\n    ticks 14\n  \
+                 got:\n    0 14 2 0\n    1 2 0 2\n    2 4 0 0\n    idle 4\n    ticks 26\n";
+    assert!(outcome.text.starts_with(shown), "{}", outcome.text);
+    let kept = keep.join("seed-4-log-2-missing-program-report");
+    let edges = edge_reports(4);
+    let edge = edges.iter().find(|edge| edge.title == "log 2 missing").expect("it is one of them");
+    assert_eq!(ReportFolder::read(&kept), edge.folder);
+    let expected = std::fs::read(kept.join("expected")).expect("kept");
+    assert_eq!(Command::new(TWIN).arg("report").arg(&kept).output().expect("it starts").stdout, expected);
+    assert!(std::fs::read(kept.join("got")).expect("kept").ends_with(b"idle 4\nticks 26\n"));
+}
+
+#[test]
+fn every_wrong_report_is_found_by_the_fixed_folders() {
+    let edges = edge_reports(4);
+    for (flaw, what) in Flaw::WRONG_REPORTS {
+        let apart = edges.iter().any(|edge| edge.folder.report(flaw) != edge.folder.report(Flaw::None));
+        assert!(apart, "{what}");
+    }
+}
+
+#[test]
+fn reports_that_say_nothing_something_else_or_never_end_are_reported() {
+    for (report, patience) in [("true", "60"), ("echo idle 0", "60"), ("sleep 60", "1")] {
+        let (outcome, _) = compare_reports("strange-report", report, "1", patience);
+        let title = "difference: seed 4, no files, program report\n";
+        assert!(!outcome.well && outcome.text.starts_with(title), "{}", outcome.text);
+    }
+    let (outcome, _) = compare_reports("missing-report", "no-such-program-here", "1", "60");
+    assert!(!outcome.well && outcome.text.contains("cannot start no-such-program-here"));
 }
 
 #[test]
@@ -88,8 +157,10 @@ fn every_wrong_twin_is_told_apart() {
     let (text, well) = selftest(1, 400);
     assert!(well, "{text}");
     assert_eq!(text.matches("told apart at case").count(), 22);
+    assert_eq!(text.matches("told apart at folder").count(), 19);
     let (text, well) = selftest(1, 1);
     assert!(!well && text.contains("NEVER told apart in 1 cases"));
+    assert!(text.contains("NEVER told apart in 1 folders"));
 }
 
 #[test]
@@ -103,6 +174,21 @@ fn the_edge_cases_alone_reach_every_point() {
         assert_eq!(coverage.missing(), Vec::<String>::new(), "seed {seed}");
     }
     assert!(!Coverage::default().missing().is_empty());
+}
+
+#[test]
+fn the_fixed_folders_alone_reach_every_point_of_the_reports() {
+    for seed in 0..3 {
+        let mut coverage = ReportCoverage::default();
+        for edge in edge_reports(seed) {
+            coverage.observe(&edge.folder);
+        }
+        assert_eq!(coverage.missing(), Vec::<String>::new(), "seed {seed}");
+    }
+    let mut nothing = ReportCoverage::default();
+    let all = nothing.missing();
+    nothing.observe(&ReportFolder::of(&[], []));
+    assert!(all.len() > 20 && nothing.missing() == all, "a refused image without logs reaches nothing");
 }
 
 #[test]

@@ -1,4 +1,4 @@
-//! The examples for readers: the text makes the two files, and the files make the expected output.
+//! The examples for readers: the text makes the files, and the files make the expected output.
 
 mod common;
 
@@ -8,8 +8,9 @@ use std::path::PathBuf;
 use common::{worked_case, worked_lines};
 use twin::flaw::Flaw;
 use twin::frames::Case;
+use twin::report_folder::ReportFolder;
 use twin::run_text::{run_text, Detail};
-use twin::text_parse::case_of;
+use twin::text_parse::{case_of, report_folder_of};
 
 const NAMES: [&str; 4] = ["worked", "stopped-model", "extra-time", "refused-image"];
 
@@ -43,4 +44,34 @@ fn the_files_of_each_example_make_its_expected_output() {
 fn the_first_example_is_the_worked_one() {
     assert_eq!(files("worked"), worked_case());
     assert_eq!(file("worked", "expected"), worked_lines().as_bytes());
+}
+
+#[test]
+fn the_text_of_the_league_evening_makes_its_files() {
+    let folder = PathBuf::from(env!("CARGO_MANIFEST_DIR")).join("../examples/league");
+    let text = String::from_utf8(file("league", "run.txt")).expect("a text");
+    assert_eq!(report_folder_of(&text), Ok(ReportFolder::read(&folder)));
+    assert_eq!(ReportFolder::read(&folder).logs.len(), 3);
+}
+
+#[test]
+fn the_files_of_the_league_evening_make_its_expected_report() {
+    let logs = ["log00.bin", "log01.bin", "log02.bin"].map(|name| file("league", name));
+    let report = ReportFolder::of(&file("league", "config.bin"), logs).report(Flaw::None);
+    let expected = "0 10 2 0\n1 9 1 0\n2 7 1 2\nidle 6\nticks 36\n";
+    assert_eq!(String::from_utf8(report).expect("ascii"), expected);
+    assert_eq!(file("league", "expected-report"), expected.as_bytes());
+}
+
+#[test]
+fn the_figures_of_each_stint_are_those_in_the_text_of_the_league_evening() {
+    let stints = [
+        ("log00.bin", "0 4 1 0\n1 4 1 0\n2 4 1 0\nidle 1\nticks 16\n"),
+        ("log01.bin", "0 4 1 0\n1 4 0 0\n2 2 0 2\nidle 4\nticks 15\n"),
+        ("log02.bin", "0 2 0 0\n1 1 0 0\n2 1 0 0\nidle 1\nticks 5\n"),
+    ];
+    for (name, expected) in stints {
+        let stint = ReportFolder::of(&file("league", "config.bin"), [file("league", name)]);
+        assert_eq!(stint.report(Flaw::None), expected.as_bytes(), "{name}");
+    }
 }

@@ -2,3 +2,5 @@ pub mod Reading
 pub mod Turns
 pub mod Growing
 pub mod Whole
+pub mod Sums
+pub mod Prints

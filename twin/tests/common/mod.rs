@@ -1,5 +1,9 @@
-//! What several tests share: the worked example and small configurations.
+//! What several tests share: the worked example, small configurations, and the command line.
 #![allow(dead_code)]
+
+use std::fs;
+use std::path::{Path, PathBuf};
+use std::process::Command;
 
 use twin::config::{Config, Slot, VmPlace, SPARE};
 use twin::core::Core;
@@ -82,4 +86,23 @@ pub fn core_of(config: Config, events: &[Event]) -> Core {
         assert_eq!(core.apply(*event).refusal, 0, "{event:?}");
     }
     core
+}
+
+/// Exit status, standard output, standard error.
+pub fn twin(arguments: &[&str]) -> (Option<i32>, String, String) {
+    let output = Command::new(env!("CARGO_BIN_EXE_twin")).args(arguments).output().expect("the twin starts");
+    let text = |bytes| String::from_utf8(bytes).expect("a text");
+    (output.status.code(), text(output.stdout), text(output.stderr))
+}
+
+/// An empty folder of its own for a test.
+pub fn folder(name: &str) -> PathBuf {
+    let path = PathBuf::from(env!("CARGO_TARGET_TMPDIR")).join(name);
+    let _ = fs::remove_dir_all(&path);
+    fs::create_dir_all(&path).expect("a folder can be made");
+    path
+}
+
+pub fn shown(path: &Path) -> &str {
+    path.to_str().expect("a plain path")
 }
