@@ -6,6 +6,7 @@ use core::Core;
 use count::Count;
 use count::Marks;
 use table::Clock;
+ghost use Prim.Native.Nat.{_≤_};
 ghost use lib.ListN.{length};
 ghost use mathlib.Core.Path.{_≡_};
 ghost use Rattle.tally.specs.Counting.{noTally, shownIn, withLog};
@@ -71,7 +72,7 @@ impl Tally {
 
 // Puts the report of an image and the figures of its logs, from the buffer's front. A buffer shorter than ROOM takes nothing.
 pub fn put(b: &mut [u8], image: &[u8], t: Tally) -> usize
-    ensures { λ r. ⌜ Puts (shownIn (length (now (b .entry))) (now (image .entry)) t) (now (b .entry)) 0 (now (b .exit)) r ⌝ }
+    ensures { λ r. ⌜ Puts (shownIn (length (now (b .entry))) (now (image .entry)) t) (now (b .entry)) 0 (now (b .exit)) r × (r ≤ length (now (b .entry))) ⌝ }
 {
     if b.len() < ROOM {
         return 0;

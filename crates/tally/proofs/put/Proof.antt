@@ -7,7 +7,7 @@ use Rattle.tally.proofs.put.Statement.{statement}
 use Rattle.tally.proofs.put.Tie as tie
 
 returns : tie.Need-returns
-returns c = shown-none _ _ (c .if1 .taken)
+returns c = (shown-none _ _ (c .if1 .taken), omega arith)
 
 read-requires : tie.Need-read-requires
 read-requires c κs = search needs
@@ -22,7 +22,7 @@ same-length : tie.Need-same-length
 same-length c = search needs
 
 returns-2 : tie.Need-returns-2
-returns-2 c = shown-refused _ _ (omega (arith, c .before .before .before .before .before .before .before .if1 .left)) (c .before .before .before .before .before .before .read .ensures) (c .before .before .before .before .before .if2 .taken) (c .before .before .put-refused .ensures .0)
+returns-2 c = (shown-refused _ _ (omega (arith, c .before .before .before .before .before .before .before .if1 .left)) (c .before .before .before .before .before .before .read .ensures) (c .before .before .before .before .before .if2 .taken) (c .before .before .put-refused .ensures .0), omega (arith, c .before .before .before .before .before .before .before .if1 .left, c .before .before .put-refused .ensures .1))
 
 put-tally-requires : tie.Need-put-tally-requires
 put-tally-requires c κs = search needs
@@ -31,7 +31,7 @@ same-length-2 : tie.Need-same-length-2
 same-length-2 c = search needs
 
 returns-3 : tie.Need-returns-3
-returns-3 c = shown-figures _ _ (omega (arith, c .before .before .before .before .before .before .before .if1 .left)) (c .before .before .before .before .before .before .read .ensures) (c .before .before .before .before .before .if2 .left) (c .before .before .put-tally .ensures .0)
+returns-3 c = (shown-figures _ _ (omega (arith, c .before .before .before .before .before .before .before .if1 .left)) (c .before .before .before .before .before .before .read .ensures) (c .before .before .before .before .before .if2 .left) (c .before .before .put-tally .ensures .0), omega (arith, c .before .before .before .before .before .before .before .if1 .left, c .before .before .put-tally .ensures .1))
 
 pub put-spec : {M : Type 1} → statement M
 put-spec =

@@ -1,0 +1,80 @@
+-- As much of the buffer is printed as was put.
+use borrow.Author.Needs.{needs}
+use lib.Seq.{length-take-le}
+use mathlib.Core.Path.{sym}
+use native.Mathlib.Omega.{arith}
+use Rattle.report.proofs.main.Statement.{statement}
+use Rattle.report.proofs.main.Tie as tie
+
+buffer-requires : tie.Need-buffer-requires
+buffer-requires c κs = search needs
+
+large-buffer-requires : tie.Need-large-buffer-requires
+large-buffer-requires c κs = search needs
+
+slice-aggregate-read-file : tie.Need-slice-aggregate-read-file
+slice-aggregate-read-file c = search needs
+
+slice-aggregate-read-file-2 : tie.Need-slice-aggregate-read-file-2
+slice-aggregate-read-file-2 c = search needs
+
+read-file-requires : tie.Need-read-file-requires
+read-file-requires c κs = search needs
+
+array-share-prefix-image : tie.Need-array-share-prefix-image
+array-share-prefix-image c = search needs
+
+slice-aggregate-counted : tie.Need-slice-aggregate-counted
+slice-aggregate-counted c = search needs
+
+slice-aggregate-counted-2 : tie.Need-slice-aggregate-counted-2
+slice-aggregate-counted-2 c = search needs
+
+counted-requires : tie.Need-counted-requires
+counted-requires c κs = search needs
+
+slice-aggregate-put : tie.Need-slice-aggregate-put
+slice-aggregate-put c = search needs
+
+array-share-prefix-image-2 : tie.Need-array-share-prefix-image-2
+array-share-prefix-image-2 c = search needs
+
+slice-aggregate-put-2 : tie.Need-slice-aggregate-put-2
+slice-aggregate-put-2 c = search needs
+
+put-requires : tie.Need-put-requires
+put-requires c κs = search needs
+
+array-share-prefix-log : tie.Need-array-share-prefix-log
+array-share-prefix-log c = search needs
+
+slice-aggregate-write-all : tie.Need-slice-aggregate-write-all
+slice-aggregate-write-all c = sym (length-take-le _ _ (omega (arith, c .before .before .put .ensures .1, c .before .before .put .kept .0)))
+
+write-all-requires : tie.Need-write-all-requires
+write-all-requires c κs = search needs
+
+returns : tie.Need-returns
+returns c = search needs
+
+pub main-spec : {M : Type 1} → statement M
+main-spec =
+    tie.close
+    (tie.spec
+    buffer-requires
+    large-buffer-requires
+    slice-aggregate-read-file
+    slice-aggregate-read-file-2
+    read-file-requires
+    array-share-prefix-image
+    slice-aggregate-counted
+    slice-aggregate-counted-2
+    counted-requires
+    slice-aggregate-put
+    array-share-prefix-image-2
+    slice-aggregate-put-2
+    put-requires
+    array-share-prefix-log
+    slice-aggregate-write-all
+    write-all-requires
+    returns)
