@@ -4,3 +4,4 @@ pub mod Growing
 pub mod Whole
 pub mod Sums
 pub mod Prints
+pub mod Vectors

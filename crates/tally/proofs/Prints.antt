@@ -139,14 +139,14 @@ unfolding tallyText figuresText rowsText withAll
 figures-text g ms few small =
     let n : min (g .count) 8 ≡ g .count = omega arith in
     let rows = joined-same
-        (λ v. rowText v (getD (grownFrom (tableTick g) ms 0 (replicate 8 0)) v 0) (getD (grownFrom (spareTick g) ms 0 (replicate 8 0)) v 0) (getD (grownFrom (missedTick g) ms 0 (replicate 8 0)) v 0))
-        (λ v. rowText v (times (tableTick g v) ms) (times (spareTick g v) ms) (times (missedTick g v) ms))
-        (g .count)
-        (λ v l. rw (
-          from-none (tableTick g) ms v (omega arith) (small (tableTick g v)),
-          from-none (spareTick g) ms v (omega arith) (small (spareTick g v)),
-          from-none (missedTick g) ms v (omega arith) (small (missedTick g v)),
-        ))
+    (λ v. rowText v (getD (grownFrom (tableTick g) ms 0 (replicate 8 0)) v 0) (getD (grownFrom (spareTick g) ms 0 (replicate 8 0)) v 0) (getD (grownFrom (missedTick g) ms 0 (replicate 8 0)) v 0))
+    (λ v. rowText v (times (tableTick g v) ms) (times (spareTick g v) ms) (times (missedTick g v) ms))
+    (g .count)
+    (λ v l. rw (
+      from-none (tableTick g) ms v (omega arith) (small (tableTick g v)),
+      from-none (spareTick g) ms v (omega arith) (small (spareTick g v)),
+      from-none (missedTick g) ms v (omega arith) (small (missedTick g v)),
+    ))
     in
     rw (n, rows, grown-none (times idleTick ms) (small idleTick), grown-none (times ticking ms) (small ticking))
 

@@ -178,8 +178,8 @@ module _ (g : Config) where
   adds-all (m ∷ ms) h =
       let r = adds-all ms (h .1) in
       let sum : total (served-in (m ∷ ms)) (g .count) ≡ total (served-at m) (g .count) + total (served-in ms) (g .count) =
-          total-same (served-in (m ∷ ms)) (λ v. served-at m v + served-in ms v) (g .count) (λ v l. omega (arith, times-cons (tableTick g v) m ms, times-cons (spareTick g v) m ms))
-          ∙ total-add (served-at m) (served-in ms) (g .count)
+      total-same (served-in (m ∷ ms)) (λ v. served-at m v + served-in ms v) (g .count) (λ v l. omega (arith, times-cons (tableTick g v) m ms, times-cons (spareTick g v) m ms))
+      ∙ total-add (served-at m) (served-in ms) (g .count)
       in
       record {
         all = omega (arith, sum, h .0 .all, r .all, times-cons idleTick m ms, times-cons ticking m ms);

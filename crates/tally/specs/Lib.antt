@@ -3,3 +3,4 @@ pub mod Figures
 pub mod Report
 pub mod Counting
 pub mod Adds
+pub mod Example

@@ -13,7 +13,7 @@ abbrev Inv-loop : tie.InvT-loop
 Inv-loop image log₀ t₀ k₀ log t k = (k ≤ 16) × (length log ≡ length log₀) × OfLogs image k t
 
 abbrev μ-loop : tie.MeasureT-loop
-μ-loop image log₀ t₀ k₀ log t k = 16 - k
+μ-loop image log₀ t₀ k₀ log t k = 256 - k
 
 none-requires : tie.Need-none-requires Inv-loop μ-loop
 none-requires c κs = search needs
