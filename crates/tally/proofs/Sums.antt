@@ -1,6 +1,6 @@
 -- The figures add up: moment by moment, and so over every run and over all logs of a report.
 use Prim.Native.Nat.{suc, zero, ℕ, _+_, _<_, _≤_}
-use borrow.Author.Tests.{eq-eqb, ne-eqb}
+use borrow.Author.Tests.{eq-eqb, eqb-true, ne-eqb}
 use lib.Dec.{eqb, ltb}
 use lib.ListN.{length}
 use lib.Pow.{low}
@@ -10,22 +10,24 @@ use mathlib.Core.Logic.{inl, inr, ⊎-elim, _⊎_}
 use mathlib.Core.Path.{ap, refl, _∙_, _≡_}
 use native.Mathlib.Decide.{decLt, ℕ-discrete}
 use native.Mathlib.Omega.{arith}
+use Rattle.basis.proofs.Laws.{both-left, both-right}
 use Rattle.basis.specs.Choice.{both, pick}
 use Rattle.config.proofs.Legality.{legal-is}
 use Rattle.config.specs.declared.Config.{Config}
 use Rattle.core.specs.Events.{stepOf}
-use Rattle.core.specs.State.{freshCore, nobody}
+use Rattle.core.specs.State.{freshCore, nobody, readyAt}
 use Rattle.core.specs.declared.Core.{Core}
 use Rattle.core.specs.declared.Event.{Event}
 use Rattle.promises.proofs.Facts.{num, times-cons, times-nil}
 use Rattle.promises.proofs.Lawful.{lawful, runnerBy}
+use Rattle.promises.proofs.Slices.{named-runs}
 use Rattle.promises.proofs.Steps.{Reached, at-fresh, each-of, step-at}
 use Rattle.promises.specs.History.{Each, Given, Moment, history, moment, ticking, ticksAfter, times}
 use Rattle.promises.specs.Moments.{naming, tableAt}
 use Rattle.soundness.proofs.Always.{Good, good-fresh, good-step}
 use Rattle.soundness.proofs.Events.{runner-facts}
 use Rattle.soundness.proofs.Facts.{ready-below}
-use Rattle.tally.specs.Adds.{Adds, total}
+use Rattle.tally.specs.Adds.{Adds, Unready, total}
 use Rattle.tally.specs.Figures.{idleTick, missedTick, spareTick, tableTick}
 use Rattle.tally.specs.Logs.{eventsFrom, happens, happensIn}
 
@@ -236,3 +238,24 @@ module _ (g : Config) (d : Given g) where
   -- and over all logs of a report
   pub report-adds : (logs : List (List ℕ)) → Adds g (happensIn stepOf g logs)
   report-adds logs = adds-all g (happensIn stepOf g logs) (logs-one logs)
+
+  -- N17: what is counted as missed was missed because the VM was not ready
+  pub missed-unready : (v : ℕ) → v < g .count → (es : List Event) → Each (Unready g v) (history stepOf g es)
+  unfolding missedTick
+  missed-unready v h es = each-of stepOf Stays stays-step (Unready g v) one es 0 (freshCore g) stays-fresh
+    where
+      one : (k : ℕ) (c : Core) → Stays k c → (e : Event) → Unready g v (moment stepOf k c e)
+      one k c s e missed = go (readyAt c v) refl
+        where
+          named : naming g v (moment stepOf k c e) ≡ true
+          named = both-left (naming g v (moment stepOf k c e)) _ missed
+
+          idle : moment stepOf k c e .answer .running ≡ 255
+          idle = eqb-true (moment stepOf k c e .answer .running) 255 (both-right (naming g v (moment stepOf k c e)) _ missed)
+
+          go : (b : Bool) → readyAt c v ≡ b → readyAt c v ≡ false
+          go true r =
+              let small : v < 255 = omega (arith, h, few) in
+              let runs : moment stepOf k c e .answer .running ≡ v = eqb-true (moment stepOf k c e .answer .running) v (named-runs g v small (moment stepOf k c e) (lawful g d k c (s .reached) e) named r) in
+              absurd (omega (arith, idle, runs, small))
+          go false r = r
