@@ -13,3 +13,4 @@ pub mod Worthless
 pub mod Vectors
 pub mod Answers
 pub mod Ours
+pub mod Images

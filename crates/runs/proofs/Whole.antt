@@ -2,34 +2,22 @@
 use Prim.Native.Nat.{ℕ}
 use mathlib.Core.Bool.{Bool, false, true}
 use mathlib.Core.List.{List}
-use mathlib.Core.Path.{sym, _≡_}
-use Rattle.core.proofs.Inner.{step-sound}
+use mathlib.Core.Path.{_≡_}
 use Rattle.core.specs.Events.{innerOf, stepOf}
 use Rattle.core.specs.State.{freshCore}
-use Rattle.core.specs.declared.Core.{Core}
-use Rattle.core.specs.declared.Event.{Event}
-use Rattle.image.proofs.Theorems.{read-legal, read-typed, read-whole}
 use Rattle.image.specs.Numbers.{Bytes}
 use Rattle.image.specs.Reader.{readImage}
+use Rattle.promises.proofs.Images.{given}
 use Rattle.replay.proofs.Same.{run-same}
 use Rattle.replay.specs.Run.{runBy, runText, stateRunText}
-use Rattle.soundness.proofs.Always.{Good, good-fresh, good-step}
-use Rattle.soundness.proofs.Facts.{sound-of}
+use Rattle.soundness.proofs.Always.{Good, good-fresh, good-step, inner-good}
 
--- what an accepted image gives
-given : (bs : List ℕ) → Bytes bs → readImage bs .fault ≡ 0 → Good (freshCore (readImage bs .config))
-given bs h e =
-    let w = read-whole bs e in
-    let t = read-typed bs (readImage bs .config) h w in
-    good-fresh (readImage bs .config) (read-legal bs (readImage bs .config) h w)
-    (record { entries = t .vms .0; handlers = t .vms .1; owners = t .table .0; durations = t .table .1 })
-
--- on a sound state the inner event is the event
-alike : (c : Core) (e : Event) → Good c → innerOf c e ≡ stepOf c e
-alike c e g = sym (step-sound c e (sound-of c (g .facts)))
+-- an accepted image gives a sound state
+begun : (bs : List ℕ) → Bytes bs → readImage bs .fault ≡ 0 → Good (freshCore (readImage bs .config))
+begun bs h e = let d = given bs h e in good-fresh (readImage bs .config) (d .legal) (d .sized)
 
 pub runs-alike : (states : Bool) (bs log : List ℕ) → Bytes bs → runBy innerOf states bs log ≡ runBy stepOf states bs log
-runs-alike states bs log h = run-same innerOf stepOf Good alike good-step states bs log (given bs h)
+runs-alike states bs log h = run-same innerOf stepOf Good inner-good good-step states bs log (begun bs h)
 
 -- N1 to N7: the text that the code is proved to print is the text of the rules
 pub runlog-prints : (bs log : List ℕ) → Bytes bs → runBy innerOf false bs log ≡ runText bs log

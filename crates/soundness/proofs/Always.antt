@@ -5,7 +5,8 @@ use mathlib.Core.Path.{ap, refl, sym, _∙_, _≡_}
 use Rattle.config.proofs.Legality.{legal-is}
 use Rattle.config.specs.Sizes.{legal}
 use Rattle.config.specs.declared.Config.{Config}
-use Rattle.core.specs.Events.{stepOf}
+use Rattle.core.proofs.Inner.{step-sound}
+use Rattle.core.specs.Events.{innerOf, stepOf}
 use Rattle.core.specs.Refusals.{refusalOf, rowOf}
 use Rattle.core.specs.Sound.{Sound, sound}
 use Rattle.core.specs.State.{Shaped, freshCore}
@@ -51,6 +52,10 @@ pub record Good (c : Core) : Type 0 where
 
 pub good-step : (c : Core) (e : Event) → Good c → Good (stepOf c e .core)
 good-step c e h = record { shaped = shaped-step c e (h .shaped); facts = step-facts c e (h .shaped) (h .facts) }
+
+-- there the event that does not test for soundness is the event
+pub inner-good : (c : Core) (e : Event) → Good c → innerOf c e ≡ stepOf c e
+inner-good c e h = sym (step-sound c e (sound-of c (h .facts)))
 
 pub good-fresh : (g : Config) → legal g ≡ true → Sized g → Good (freshCore g)
 good-fresh g h z = record { shaped = shaped-fresh g z; facts = fresh-facts g (legal-is g h) }

@@ -1,4 +1,3 @@
-pub mod Reading
 pub mod Turns
 pub mod Growing
 pub mod Whole

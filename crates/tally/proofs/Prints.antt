@@ -17,16 +17,17 @@ use Rattle.core.specs.Events.{stepOf}
 use Rattle.core.specs.State.{freshCore}
 use Rattle.core.specs.declared.Core.{Core}
 use Rattle.core.specs.declared.Event.{Event}
+use Rattle.events.proofs.Log.{events-few}
+use Rattle.events.specs.Log.{eventsFrom}
 use Rattle.image.specs.Reader.{readImage}
 use Rattle.promises.proofs.Facts.{num, times-cons, times-nil}
+use Rattle.promises.proofs.Images.{given}
 use Rattle.promises.specs.History.{Behaviour, Moment, history, moment, moments, ticking, ticksAfter, times}
 use Rattle.replay.specs.Run.{refusedText}
 use Rattle.tally.proofs.Growing.{with-none}
-use Rattle.tally.proofs.Reading.{events-few}
-use Rattle.tally.proofs.Whole.{given}
 use Rattle.tally.specs.Counting.{OfLogs, grown, grownFrom, noTally, rowsText, shownText, tallyText, withAll, withLog, withLogs}
 use Rattle.tally.specs.Figures.{idleTick, missedTick, spareTick, tableTick}
-use Rattle.tally.specs.Logs.{eventsFrom, happens, happensIn}
+use Rattle.tally.specs.Logs.{happens, happensIn}
 use Rattle.tally.specs.Report.{figuresText, reportText, rowText}
 use Rattle.tally.specs.declared.Tally.{Tally}
 

@@ -18,6 +18,7 @@ use Rattle.core.specs.Events.{stepOf}
 use Rattle.core.specs.State.{freshCore, nobody, readyAt}
 use Rattle.core.specs.declared.Core.{Core}
 use Rattle.core.specs.declared.Event.{Event}
+use Rattle.events.specs.Log.{eventsFrom}
 use Rattle.promises.proofs.Facts.{num, times-cons, times-nil}
 use Rattle.promises.proofs.Lawful.{lawful, runnerBy}
 use Rattle.promises.proofs.Slices.{named-runs}
@@ -29,7 +30,7 @@ use Rattle.soundness.proofs.Events.{runner-facts}
 use Rattle.soundness.proofs.Facts.{ready-below}
 use Rattle.tally.specs.Adds.{Adds, Unready, total}
 use Rattle.tally.specs.Figures.{idleTick, missedTick, spareTick, tableTick}
-use Rattle.tally.specs.Logs.{eventsFrom, happens, happensIn}
+use Rattle.tally.specs.Logs.{happens, happensIn}
 
 module _ (f h : ℕ → ℕ) where
   total-add : (n : ℕ) → total (λ v. f v + h v) n ≡ total f n + total h n

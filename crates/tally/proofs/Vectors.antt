@@ -10,6 +10,7 @@ use Rattle.core.specs.Changes.{runningWithout}
 use Rattle.core.specs.Events.{calledFrom, done, innerOf, startCore, stepOf, tickClock, tickQueue, tickTurn}
 use Rattle.core.specs.Refusals.{refusalOf, refused, rowOf}
 use Rattle.core.specs.Sound.{noneReady, queuedReady, sound, standingsKnown}
+use Rattle.events.specs.Log.{eventsAt, eventsBy, eventsFrom}
 use Rattle.events.specs.Reader.{decoded, event, placed, readAt, size}
 use Rattle.guest.specs.Bits.{clearBit, highest, setBit}
 use Rattle.guest.specs.Deliver.{deliver, due, enter, shown}
@@ -26,7 +27,7 @@ use Rattle.queue.specs.Entries.{frontOf, others, paddedOf, pushed, rest}
 use Rattle.table.specs.Position.{nextClock}
 use Rattle.tally.specs.Example.{emptyReport, exampleLog, exampleReport, figuresOf, lastOf}
 use Rattle.tally.specs.Figures.{idleTick, missedTick, spareTick, tableTick}
-use Rattle.tally.specs.Logs.{eventsBy, eventsFrom, happens, happensIn, onward}
+use Rattle.tally.specs.Logs.{happens, happensIn}
 use Rattle.tally.specs.Report.{figuresText, lastText, reportText, rowText}
 use Rattle.text.specs.Digits.{decimal, digits, glyph, width}
 use Rattle.vms.specs.Records.{each, restFresh}
@@ -37,7 +38,7 @@ unfolding refusedImage readImage readEnd readSlots readVms coreFault ownerFault 
 image-read = (refl, refl)
 
 log-read : eventsFrom exampleLog 0 ≡ exampleEvents
-unfolding eventsBy onward readAt placed decoded event size
+unfolding eventsBy eventsAt readAt placed decoded event size
 log-read = refl
 
 run : List Moment
