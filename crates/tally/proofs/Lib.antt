@@ -1,4 +1,5 @@
 pub mod Turns
+pub mod Showing
 pub mod Growing
 pub mod Whole
 pub mod Sums

@@ -1,5 +1,5 @@
 -- What the program prints is the report of its image and its logs; and no sum wraps, for sixteen logs of the largest size.
-use Prim.Native.Nat.{min, suc, zero, ℕ, _%_, _*_, _+_, _<_, _^_, _≤_}
+use Prim.Native.Nat.{suc, zero, ℕ, _%_, _*_, _+_, _<_, _^_, _≤_}
 use borrow.Author.Tests.{eq-eqb, eqb-true, ltb-false}
 use lib.Dec.{eqb, ltb}
 use lib.ListN.{getD, getD-replicate, length, length-append, length-replicate, replicate}
@@ -77,8 +77,8 @@ grown-small zero x h = omega arith
 grown-small (suc n) x h = let e : (x + 1) % 2 ^ 32 ≡ x + 1 = mod-eq-of-lt (omega arith) in rw e (grown-small n (x + 1) (omega arith) ∙ omega arith)
 
 -- from zero
-grown-none : (n : ℕ) → n < 2 ^ 32 → grown n 0 ≡ n
-grown-none n h = grown-small n 0 (omega arith) ∙ omega arith
+grown-zero : (n : ℕ) → n < 2 ^ 32 → grown n 0 ≡ n
+grown-zero n h = grown-small n 0 (omega arith) ∙ omega arith
 
 grown-twice : (m n x : ℕ) → grown n (grown m x) ≡ grown (m + n) x
 unfolding grown
@@ -105,7 +105,7 @@ module _ (p : ℕ → Moment → Bool) where
   from-none ms v l h =
       let e : 0 + v ≡ v = omega arith in
       from-at ms (replicate 8 0) 0 v (omega (arith, length-replicate {A = ℕ} 8 0))
-      ∙ rw (e, getD-replicate {A = ℕ} 8 v 0 0 l) (grown-none (times (p v) ms) h)
+      ∙ rw (e, getD-replicate {A = ℕ} 8 v 0 0 l) (grown-zero (times (p v) ms) h)
 
 -- ---- the figures of all logs
 
@@ -138,7 +138,6 @@ joined-same f h (suc n) e = rw (joined-same f h n (λ k l. e k (omega arith)), e
 figures-text : (g : Config) (ms : List Moment) → g .count ≤ 8 → ((p : Moment → Bool) → times p ms < 2 ^ 32) → tallyText (g .count) (withAll g ms noTally) ≡ figuresText g ms
 unfolding tallyText figuresText rowsText withAll
 figures-text g ms few small =
-    let n : min (g .count) 8 ≡ g .count = omega arith in
     let rows = joined-same
     (λ v. rowText v (getD (grownFrom (tableTick g) ms 0 (replicate 8 0)) v 0) (getD (grownFrom (spareTick g) ms 0 (replicate 8 0)) v 0) (getD (grownFrom (missedTick g) ms 0 (replicate 8 0)) v 0))
     (λ v. rowText v (times (tableTick g v) ms) (times (spareTick g v) ms) (times (missedTick g v) ms))
@@ -149,7 +148,7 @@ figures-text g ms few small =
       from-none (missedTick g) ms v (omega arith) (small (missedTick g v)),
     ))
     in
-    rw (n, rows, grown-none (times idleTick ms) (small idleTick), grown-none (times ticking ms) (small ticking))
+    rw (rows, grown-zero (times idleTick ms) (small idleTick), grown-zero (times ticking ms) (small ticking))
 
 -- N13 to N21: one log after the other counted, and the figures shown, is the report
 pub report-prints : (image : List ℕ) → Bytes image → (logs : List (List ℕ)) → length logs ≤ 16 → shownText image (withLogs image logs noTally) ≡ reportText image logs

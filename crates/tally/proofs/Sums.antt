@@ -63,8 +63,12 @@ total-one w (suc n) h =
 
 -- ---- one moment
 
+-- whether a tick runs v, by its own slot or by a spare one
+abbrev served : Config → Moment → ℕ → ℕ
+served g m v = num (tableTick g v m) + num (spareTick g v m)
+
 pub record AddsOne (g : Config) (m : Moment) : Type 0 where
-  pub all : total (λ v. num (tableTick g v m) + num (spareTick g v m)) (g .count) + num (idleTick m) ≡ num (ticking m)
+  pub all : total (served g m) (g .count) + num (idleTick m) ≡ num (ticking m)
   pub named : (v : ℕ) → v < g .count → num (tableTick g v m) + num (missedTick g v m) ≡ num (naming g v m)
 
 -- a moment whose tick runs nobody, or a VM that its slot names or to which the slot is spare
@@ -80,16 +84,15 @@ module _ (g : Config) (few : g .count ≤ 8) (m : Moment) where
 
   adds-off : ticking m ≡ false → AddsOne g m
   unfolding tableTick spareTick missedTick idleTick naming
-  adds-off t = record { all = rw t (ap (λ (x : ℕ). x + 0) (total-none (g .count))); named = λ v l. rw t }
-
-  abbrev served : ℕ → ℕ
-  served v = num (tableTick g v m) + num (spareTick g v m)
+  adds-off t =
+      let none : total (served g m) (g .count) ≡ 0 = total-same (served g m) (λ v. 0) (g .count) (λ v l. rw t) ∙ total-none (g .count) in
+      record { all = rw (none, t); named = λ v l. rw t }
 
   module _ (t : ticking m ≡ true) where
     one : num (ticking m) ≡ 1
     one = ap num t
 
-    idle-served : runner ≡ nobody → (v : ℕ) → v < g .count → served v ≡ 0
+    idle-served : runner ≡ nobody → (v : ℕ) → v < g .count → served g m v ≡ 0
     unfolding tableTick spareTick naming
     idle-served e v l = rw (t, e, ne-eqb 255 v (λ f. omega arith)) (none (eqb owner v) (eqb owner 255))
       where
@@ -113,14 +116,14 @@ module _ (g : Config) (few : g .count ≤ 8) (m : Moment) where
 
     adds-idle : runner ≡ nobody → AddsOne g m
     adds-idle e =
-        let z : total served (g .count) ≡ 0 = total-same served (λ v. 0) (g .count) (idle-served e) ∙ total-none (g .count) in
+        let z : total (served g m) (g .count) ≡ 0 = total-same (served g m) (λ v. 0) (g .count) (idle-served e) ∙ total-none (g .count) in
         record { all = omega (arith, z, idle-one e, one); named = idle-named e }
 
     module _ (low : runner < g .count) (o : (owner ≡ runner) ⊎ (owner ≡ 255)) where
       awake : eqb runner 255 ≡ false
       awake = ne-eqb runner 255 (λ f. omega arith)
 
-      runs-served : (v : ℕ) → v < g .count → served v ≡ num (eqb runner v)
+      runs-served : (v : ℕ) → v < g .count → served g m v ≡ num (eqb runner v)
       unfolding tableTick spareTick naming
       runs-served v l = rw t (⊎-elim by-name by-spare o)
         where
@@ -152,7 +155,7 @@ module _ (g : Config) (few : g .count ≤ 8) (m : Moment) where
 
       adds-runs : AddsOne g m
       adds-runs =
-          let z : total served (g .count) ≡ 1 = total-same served (λ v. num (eqb runner v)) (g .count) runs-served ∙ total-one runner (g .count) low in
+          let z : total (served g m) (g .count) ≡ 1 = total-same (served g m) (λ v. num (eqb runner v)) (g .count) runs-served ∙ total-one runner (g .count) low in
           record { all = omega (arith, z, runs-none, one); named = runs-named }
 
   adds-one : (ticking m ≡ true → Fits) → AddsOne g m
@@ -165,9 +168,6 @@ module _ (g : Config) (few : g .count ≤ 8) (m : Moment) where
 -- ---- many moments
 
 module _ (g : Config) where
-  abbrev served-at : Moment → ℕ → ℕ
-  served-at m v = num (tableTick g v m) + num (spareTick g v m)
-
   abbrev served-in : List Moment → ℕ → ℕ
   served-in ms v = times (tableTick g v) ms + times (spareTick g v) ms
 
@@ -180,9 +180,9 @@ module _ (g : Config) where
       }
   adds-all (m ∷ ms) h =
       let r = adds-all ms (h .1) in
-      let sum : total (served-in (m ∷ ms)) (g .count) ≡ total (served-at m) (g .count) + total (served-in ms) (g .count) =
-      total-same (served-in (m ∷ ms)) (λ v. served-at m v + served-in ms v) (g .count) (λ v l. omega (arith, times-cons (tableTick g v) m ms, times-cons (spareTick g v) m ms))
-      ∙ total-add (served-at m) (served-in ms) (g .count)
+      let sum : total (served-in (m ∷ ms)) (g .count) ≡ total (served g m) (g .count) + total (served-in ms) (g .count) =
+      total-same (served-in (m ∷ ms)) (λ v. served g m v + served-in ms v) (g .count) (λ v l. omega (arith, times-cons (tableTick g v) m ms, times-cons (spareTick g v) m ms))
+      ∙ total-add (served g m) (served-in ms) (g .count)
       in
       record {
         all = omega (arith, sum, h .0 .all, r .all, times-cons idleTick m ms, times-cons ticking m ms);

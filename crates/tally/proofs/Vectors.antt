@@ -44,17 +44,9 @@ log-read = refl
 run : List Moment
 run = history stepOf (example 1) exampleEvents
 
-first : figuresOf (example 1) run 0 ≡ 2 ∷ 1 ∷ 1 ∷ []
-unfolding run tableTick spareTick missedTick stepOf refusalOf rowOf sound queuedReady noneReady standingsKnown done startCore tickClock tickTurn tickQueue calledFrom runningWithout refused innerOf legal durationsFit ownersFit vmsServed hasSlot vmsRest slotsRest every some upTo joined isField stored write due deliver enter shown highest setBit clearBit pend isFresh isBlank frontOf rest others pushed paddedOf nextClock each restFresh saving runnerOf entering turnBy passed turn moments times tableTo naming
-first = refl
-
-second : figuresOf (example 1) run 1 ≡ 1 ∷ 0 ∷ 0 ∷ []
-unfolding run tableTick spareTick missedTick stepOf refusalOf rowOf sound queuedReady noneReady standingsKnown done startCore tickClock tickTurn tickQueue calledFrom runningWithout refused innerOf legal durationsFit ownersFit vmsServed hasSlot vmsRest slotsRest every some upTo joined isField stored write due deliver enter shown highest setBit clearBit pend isFresh isBlank frontOf rest others pushed paddedOf nextClock each restFresh saving runnerOf entering turnBy passed turn moments times tableTo naming
-second = refl
-
-last : lastOf run ≡ 1 ∷ 5 ∷ []
-unfolding run idleTick stepOf refusalOf rowOf sound queuedReady noneReady standingsKnown done startCore tickClock tickTurn tickQueue calledFrom runningWithout refused innerOf legal durationsFit ownersFit vmsServed hasSlot vmsRest slotsRest every some upTo joined isField stored write due deliver enter shown highest setBit clearBit pend isFresh isBlank frontOf rest others pushed paddedOf nextClock each restFresh saving runnerOf entering turnBy passed turn moments times tableTo naming
-last = refl
+figures : figuresOf (example 1) run 0 ∷ figuresOf (example 1) run 1 ∷ lastOf run ∷ [] ≡ (2 ∷ 1 ∷ 1 ∷ []) ∷ (1 ∷ 0 ∷ 0 ∷ []) ∷ (1 ∷ 5 ∷ []) ∷ []
+unfolding run tableTick spareTick missedTick idleTick stepOf refusalOf rowOf sound queuedReady noneReady standingsKnown done startCore tickClock tickTurn tickQueue calledFrom runningWithout refused innerOf legal durationsFit ownersFit vmsServed hasSlot vmsRest slotsRest every some upTo joined isField stored write due deliver enter shown highest setBit clearBit pend isFresh isBlank frontOf rest others pushed paddedOf nextClock each restFresh saving runnerOf entering turnBy passed turn moments times tableTo naming
+figures = refl
 
 -- two VMs' figures as text
 joined-two : (f : ℕ → List ℕ) (n : ℕ) → n ≡ 2 → joined f n ≡ f 0 ++ f 1
@@ -78,7 +70,7 @@ happened = rw log-read (append-nil (history stepOf (example 1) exampleEvents))
 
 pub example-report : reportText exampleImage (exampleLog ∷ []) ≡ exampleReport
 unfolding reportText rowText lastText decimal digits width glyph
-example-report = rw (image-read .0, image-read .1, happened, text-of (example 1) run 2 1 1 1 0 0 1 5 refl first second last)
+example-report = rw (image-read .0, image-read .1, happened, text-of (example 1) run 2 1 1 1 0 0 1 5 refl (ap (λ (l : List (List ℕ)). getD l 0 []) figures) (ap (λ (l : List (List ℕ)). getD l 1 []) figures) (ap (λ (l : List (List ℕ)). getD l 2 []) figures))
 
 pub empty-report : reportText exampleImage [] ≡ emptyReport
 unfolding reportText happensIn rowText lastText decimal digits width glyph times

@@ -22,9 +22,6 @@ pub struct Tally {
     pub ticks: u32,
 }
 
-// The longest log that is run (S9, N20).
-const LONGEST: usize = 60000;
-
 // The most bytes that a report has, and some more.
 const ROOM: usize = 512;
 
@@ -53,7 +50,7 @@ impl Tally {
         if r.fault != 0 {
             return self;
         }
-        if LONGEST < log.len() {
+        if replay::LONGEST < log.len() {
             return self;
         }
         let config = r.config;

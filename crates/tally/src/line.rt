@@ -1,17 +1,16 @@
 // The lines of a report (N18).
 use crate::Tally;
-ghost use Prim.Native.Nat.{min, _+_, _≤_};
+ghost use Prim.Native.Nat.{_+_, _≤_};
 ghost use lib.ListN.{length};
-ghost use mathlib.Core.Path.{_≡_};
 ghost use Rattle.tally.specs.Counting.{rowsText, tallyText};
 ghost use Rattle.tally.specs.Report.{lastText, rowText};
 ghost use Rattle.text.specs.Puts.{Puts};
 
 pub fn put_tally(b: &mut [u8], at: usize, count: u8, t: Tally) -> usize
-    requires { ⌜ at + 385 ≤ length (now b) ⌝ }
+    requires { ⌜ (count ≤ 8) × (at + 385 ≤ length (now b)) ⌝ }
     ensures { λ r. ⌜ Puts (tallyText count t) (now (b .entry)) at (now (b .exit)) r × (r ≤ at + 385) ⌝ }
 {
-    let rows = put_rows(b, at, at_most_8(count), t);
+    let rows = put_rows(b, at, count as u32, t);
     put_last(b, rows, t.idle, t.ticks)
 }
 
@@ -50,10 +49,4 @@ fn put_last(b: &mut [u8], at: usize, idle: u32, ticks: u32) -> usize
     let a2 = text::put_number(b, a1, idle, 10);
     let a3 = text::put_word(b, a2, b"ticks ");
     text::put_number(b, a3, ticks, 10)
-}
-
-fn at_most_8(count: u8) -> u32
-    ensures { λ r. ⌜ r ≡ min count 8 ⌝ }
-{
-    if count < 8 { count as u32 } else { 8 }
 }

@@ -2,7 +2,7 @@
 use borrow.Author.Needs.{needs}
 use native.Mathlib.Omega.{arith}
 use Rattle.replay.proofs.Offsets.{offset-small}
-use Rattle.tally.proofs.Turns.{shown-figures, shown-none, shown-refused}
+use Rattle.tally.proofs.Showing.{count-few, shown-figures, shown-none, shown-refused}
 use Rattle.tally.proofs.put.Statement.{statement}
 use Rattle.tally.proofs.put.Tie as tie
 
@@ -25,7 +25,7 @@ returns-2 : tie.Need-returns-2
 returns-2 c = (shown-refused _ _ (omega (arith, c .before .before .before .before .before .before .before .if1 .left)) (c .before .before .before .before .before .before .read .ensures) (c .before .before .before .before .before .if2 .taken) (c .before .before .put-refused .ensures .0), omega (arith, c .before .before .before .before .before .before .before .if1 .left, c .before .before .put-refused .ensures .1))
 
 put-tally-requires : tie.Need-put-tally-requires
-put-tally-requires c κs = search needs
+put-tally-requires c κs = (count-few _ (λ i. c .before .before .before .before .before .shared-slice-known .given i .fits) (c .before .before .before .read .ensures) (c .before .before .if2 .left), omega (arith, c .before .before .before .before .if1 .left))
 
 same-length-2 : tie.Need-same-length-2
 same-length-2 c = search needs

@@ -6,9 +6,6 @@ use Rattle.tally.proofs.line.put_tally.Tie as tie
 use Rattle.tally.specs.Counting.{tallyText}
 use Rattle.text.proofs.Puts.{puts-then}
 
-at-most-8-requires : tie.Need-at-most-8-requires
-at-most-8-requires c κs = search needs
-
 put-rows-requires : tie.Need-put-rows-requires
 put-rows-requires c κs = search needs
 
@@ -20,8 +17,7 @@ same-length c = search needs
 
 returns : tie.Need-returns
 unfolding tallyText
-returns c = (puts-then (rw (c .before .before .before .before .before .before .before .at-most-8 .ensures) at (c .before .before .before .before .before .before .put-rows .ensures .0)) (c .before .before .put-last .ensures .0), omega (arith, c .before .before .before .before .before .before .put-rows .ensures .1, c .before .before .put-last .ensures .1))
+returns c = (puts-then (c .before .before .before .before .before .before .put-rows .ensures .0) (c .before .before .put-last .ensures .0), omega (arith, c .before .before .before .before .before .before .put-rows .ensures .1, c .before .before .put-last .ensures .1))
 
 pub put-tally-spec : {M : Type 1} → statement M
-put-tally-spec =
-    tie.close (tie.spec at-most-8-requires put-rows-requires put-last-requires same-length returns)
+put-tally-spec = tie.close (tie.spec put-rows-requires put-last-requires same-length returns)
