@@ -100,16 +100,19 @@ impl Core {
         Outcome { delivered: self.deliver(vm), ..Outcome::default() }
     }
 
-    /// Service 2 only makes the number pending; a number over 31 is an error of the VM.
+    /// Service 2 makes the number pending and delivers; a number over 31 is an error of the VM (D27).
     fn inject(&mut self, vm: u8, argument: u32) -> Outcome {
         let number = if self.flaw == Flaw::InjectMasksArgument { argument & 31 } else { argument };
         if number > 31 {
             return self.fault(CODE_BAD_ARGUMENT, number);
         }
         self.vm_mut(vm).fields[state::PENDING] |= 1 << number;
-        if self.flaw == Flaw::InjectDelivers {
-            return Outcome { delivered: self.deliver(vm), ..Outcome::default() };
-        }
-        Outcome::default()
+        let enabled = self.vm(vm).fields[state::ENABLED] >> number & 1 == 1;
+        let delivered = match self.flaw {
+            Flaw::InjectWaits => None,
+            Flaw::InjectItsOwn if enabled => Some(self.hand_over(vm, number)),
+            _ => self.deliver(vm),
+        };
+        Outcome { delivered, ..Outcome::default() }
     }
 }

@@ -26,8 +26,8 @@ const REFUSALS_BY_KIND: [&[u8]; 9] = [
     &[0, 2, 5, 9],
 ];
 
-/// Where a number can be delivered.
-const DELIVERY_NAMES: [&str; 3] = ["tick", "sync", "return"];
+/// Where a number can be delivered: at a tick, or at the services 0, 1 and 2 (D13).
+const DELIVERY_NAMES: [&str; 4] = ["tick", "sync", "return", "inject"];
 
 #[derive(Clone, Debug)]
 pub struct Coverage {
@@ -41,7 +41,7 @@ pub struct Coverage {
     notices: [u64; 4],
     error_codes: [u64; 6],
     results: [u64; 2],
-    delivered: [[u64; 32]; 3],
+    delivered: [[u64; 32]; DELIVERY_NAMES.len()],
     fields_written: [u64; 10],
     marks: [u64; Mark::COUNT],
 }
@@ -59,7 +59,7 @@ impl Default for Coverage {
             notices: [0; 4],
             error_codes: [0; 6],
             results: [0; 2],
-            delivered: [[0; 32]; 3],
+            delivered: [[0; 32]; DELIVERY_NAMES.len()],
             fields_written: [0; 10],
             marks: [0; Mark::COUNT],
         }
@@ -113,18 +113,13 @@ impl Coverage {
             self.error_codes[usize::from(answer.notice.code)] += 1;
         }
         self.results[usize::from(answer.result)] += 1;
-        let moment = match event {
-            Event::Call { service, .. } => {
-                self.services[usize::from(service.min(5))] += 1;
-                1 + usize::from(service == 1)
-            }
-            _ => 0,
-        };
         if let Some(number) = answer.delivered {
-            self.delivered[moment][usize::from(number)] += 1;
+            self.delivered[moment_index(event)][usize::from(number)] += 1;
         }
-        if let Event::Write { offset, .. } = event {
-            self.fields_written[usize::from(offset / 4)] += 1;
+        match event {
+            Event::Call { service, .. } => self.services[usize::from(service.min(5))] += 1,
+            Event::Write { offset, .. } => self.fields_written[usize::from(offset / 4)] += 1,
+            _ => {}
         }
     }
 
@@ -178,6 +173,14 @@ impl Coverage {
 /// The names of the points whose count is 0.
 pub fn never_reached(points: Vec<(String, u64)>) -> Vec<String> {
     points.into_iter().filter(|(_, count)| *count == 0).map(|(name, _)| name).collect()
+}
+
+/// The place of an event that delivered among the names of such moments.
+fn moment_index(event: Event) -> usize {
+    match event {
+        Event::Call { service, .. } => 1 + usize::from(service),
+        _ => 0,
+    }
 }
 
 fn kind_index(event: Event) -> usize {

@@ -5,7 +5,7 @@ use crate::core::Core;
 use crate::event::{Answer, Event};
 use crate::image_read::{image_body_length, ImageFault, KIND_CORE, KIND_SLOT};
 use crate::limits::{MAX_IMAGE_BYTES, MAX_LOG_BYTES, MAX_QUEUE, MAX_SLOTS, MAX_SLOT_TICKS, MAX_VMS};
-use crate::state::{Standing, PENDING, TICKS_WHILE_RUNNING};
+use crate::state::{Standing, ENABLED, PENDING, TICKS_WHILE_RUNNING};
 
 /// An enum of points to reach, each with the name that it is told by.
 macro_rules! marks {
@@ -91,6 +91,10 @@ marks! {
     Argument31 = "run: service 2 with 31",
     Argument32 = "run: service 2 with 32",
     ArgumentLowBits = "run: service 2 over 31 whose low bits are small",
+    InjectOutranked = "run: service 2 delivers a higher number, its own enabled too",
+    InjectPassedOver = "run: service 2 delivers another number, its own not enabled",
+    InjectNotEnabled = "run: service 2 delivers nothing, its number not enabled",
+    InjectErrorOnly = "run: service 2 over 31 with a number pending and enabled",
     ServiceFive = "run: service 5",
     ServiceLast = "run: service 255",
     Offset37 = "run: Write at offset 37",
@@ -179,7 +183,8 @@ pub fn event_marks(before: &Core, event: Event, answer: &Answer, after: &Core, h
     test(hit, Mark::VmSeven, answer.running == Some(7));
     match (event, answer.refusal) {
         (Event::Tick { .. }, 0) => tick_marks(before, answer, after, hit),
-        (Event::Call { service, argument, .. }, 0) => call_marks(before, service, argument, hit),
+        (Event::Call { service: 2, argument, .. }, 0) => inject_marks(before, argument, answer, hit),
+        (Event::Call { service, .. }, 0) => call_marks(before, service, hit),
         (Event::Stop { vm }, 0) => {
             let running = before.state.running == Some(vm);
             hit(if running { Mark::StopRunning } else { Mark::StopWaiting });
@@ -187,7 +192,7 @@ pub fn event_marks(before: &Core, event: Event, answer: &Answer, after: &Core, h
         }
         (Event::Restart { vm }, 0) => restart_marks(before, vm, after, hit),
         (Event::Shutdown { vm }, 0) => {
-            let enabled = before.vm(vm).fields[crate::state::ENABLED] >> 11 & 1 == 1;
+            let enabled = before.vm(vm).fields[ENABLED] >> 11 & 1 == 1;
             test(hit, Mark::ShutdownRunning, before.state.running == Some(vm) && enabled);
         }
         (_, 0) => {}
@@ -225,14 +230,28 @@ fn tick_marks(before: &Core, answer: &Answer, after: &Core, hit: &mut impl FnMut
     }
 }
 
-fn call_marks(before: &Core, service: u8, argument: u32, hit: &mut impl FnMut(Mark)) {
+fn call_marks(before: &Core, service: u8, hit: &mut impl FnMut(Mark)) {
     test(hit, Mark::ServiceFive, service == 5);
     test(hit, Mark::ServiceLast, service == 255);
     test(hit, Mark::CallFullSixteen, service == 4 && usize::from(before.state.queue.count) == MAX_QUEUE);
     test(hit, Mark::CallFullNone, service == 4 && before.config.queue_size == 0);
-    test(hit, Mark::Argument31, service == 2 && argument == 31);
-    test(hit, Mark::Argument32, service == 2 && argument == 32);
-    test(hit, Mark::ArgumentLowBits, service == 2 && argument == 0x1_0003);
+}
+
+fn inject_marks(before: &Core, argument: u32, answer: &Answer, hit: &mut impl FnMut(Mark)) {
+    test(hit, Mark::Argument31, argument == 31);
+    test(hit, Mark::Argument32, argument == 32);
+    test(hit, Mark::ArgumentLowBits, argument == 0x1_0003);
+    let Some(vm) = before.state.running.map(|vm| before.vm(vm)) else {
+        return;
+    };
+    if argument > 31 {
+        return test(hit, Mark::InjectErrorOnly, vm.deliverable() != 0);
+    }
+    let enabled = vm.fields[ENABLED] >> argument & 1 == 1;
+    let another = answer.delivered.is_some_and(|number| u32::from(number) != argument);
+    test(hit, Mark::InjectOutranked, another && enabled);
+    test(hit, Mark::InjectPassedOver, another && !enabled);
+    test(hit, Mark::InjectNotEnabled, answer.delivered.is_none() && !enabled);
 }
 
 fn restart_marks(before: &Core, vm: u8, after: &Core, hit: &mut impl FnMut(Mark)) {

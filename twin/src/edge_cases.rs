@@ -22,6 +22,7 @@ pub fn edge_cases(random: &mut Random) -> Vec<Case> {
         scripted(&small(2, 1), &every_refusal()),
         scripted(&lone(1), &every_service()),
         scripted(&small(2, 3), &arguments()),
+        scripted(&lone(0), &injections()),
         scripted(&small(2, 0), &queue_edges(2)),
         scripted(&small(8, 16), &queue_edges(8)),
         scripted(&small(3, 4), &standings()),
@@ -96,12 +97,13 @@ fn write(offset: u8, value: u32) -> Event {
     Event::Write { offset, value }
 }
 
-/// Numbers 0 to 31, each delivered at a sync, at a return and at a tick.
+/// Numbers 0 to 31, each delivered at an inject, at a return, at a sync and at a tick (D13).
 fn every_number() -> Vec<Event> {
     let mut events = vec![Event::Start, TICK];
     for number in 0..32 {
-        events.extend([write(8, 1 << number), call(2, number), call(0, 0)]);
+        events.extend([write(8, 1 << number), call(2, number)]);
         events.extend([write(24, 1 << number), call(2, number), call(1, 0)]);
+        events.extend([write(12, 1 << number), write(8, 1 << number), call(0, 0)]);
         events.extend([write(8, 1 << number), write(32, 1 << number), TICK, TICK]);
         events.extend([write(12, u32::MAX), write(8, (2u32 << number).wrapping_sub(1)), call(0, 0)]);
         events.extend([write(12, 0), write(32, 0)]);
@@ -155,6 +157,21 @@ fn arguments() -> Vec<Event> {
     for argument in numbers {
         events.extend([TICK, call(2, argument), write(8, u32::MAX), call(0, 0), TICK]);
         events.extend([call(2, argument), Event::Restart { vm: 0 }, Event::Restart { vm: 1 }, TICK]);
+    }
+    events
+}
+
+/// Service 2 as in P9 and P10; then every number delivered by it, whichever one is injected (D27).
+fn injections() -> Vec<Event> {
+    let inject = |argument| Event::Call { service: 2, argument, next: 0x1030 };
+    let mut events = vec![Event::Start, TICK, write(8, 0x08), inject(3)];
+    events.extend([write(8, 0x88), write(12, 0x80), inject(3), inject(31)]);
+    events.extend([write(8, u32::MAX), inject(32), Event::Restart { vm: 0 }, TICK]);
+    for number in 0..32 {
+        let up_to_it = (2u32 << number).wrapping_sub(1);
+        for argument in [0, number, 31] {
+            events.extend([write(8, up_to_it), write(12, !(1 << argument)), inject(argument)]);
+        }
     }
     events
 }

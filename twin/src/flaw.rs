@@ -18,7 +18,8 @@ pub enum Flaw {
     InjectMasksArgument,
     OnlyReadyAge,
     ReturnDoesNotDeliver,
-    InjectDelivers,
+    InjectWaits,
+    InjectItsOwn,
     QueueTakesOneMore,
     NewestEntryFirst,
     EndingCallKeepsAddress,
@@ -58,7 +59,7 @@ impl Flaw {
     }
 
     /// Every wrong twin of a run.
-    pub const WRONG_RUNS: [(Flaw, &'static str); 22] = [
+    pub const WRONG_RUNS: [(Flaw, &'static str); 23] = [
         (Flaw::GuestClock, "raises the guest's own copy of ticksWhileRunning"),
         (Flaw::SpareChargedToSlice, "charges a spare tick to the VM's next slice"),
         (Flaw::StopMovesTable, "moves the table on when the running VM is stopped"),
@@ -73,7 +74,8 @@ impl Flaw {
         (Flaw::InjectMasksArgument, "cuts the argument of service 2 to five bits"),
         (Flaw::OnlyReadyAge, "ages only the VMs that are ready"),
         (Flaw::ReturnDoesNotDeliver, "does not deliver at service 1"),
-        (Flaw::InjectDelivers, "delivers at service 2"),
+        (Flaw::InjectWaits, "does not deliver at service 2"),
+        (Flaw::InjectItsOwn, "delivers the number just set at service 2 though a higher one is due"),
         (Flaw::QueueTakesOneMore, "takes one entry more than the queue size"),
         (Flaw::NewestEntryFirst, "takes the newest queue entry in a spare tick"),
         (Flaw::EndingCallKeepsAddress, "stores no next address at a call that ends its VM"),

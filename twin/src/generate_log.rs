@@ -178,13 +178,14 @@ impl<'a> LogMaker<'a> {
 
     /// A short row of events that belong together.
     fn burst(&mut self) {
-        match self.random.below(7) {
+        match self.random.below(8) {
             0 => self.fill_the_queue(),
             1 => self.raise_and_sync(),
             2 => self.generate_and_return(),
             3 => self.stop_everybody(),
             4 => self.whole_cycle(),
             5 => self.bend_the_clocks(),
+            6 => self.inject_among_others(),
             _ => self.restart_the_rest(),
         }
     }
@@ -202,10 +203,21 @@ impl<'a> LogMaker<'a> {
     fn raise_and_sync(&mut self) {
         let number = self.random.below(32) as u32;
         let (next, more) = (address(self.random), mask(self.random));
+        self.push(Event::Write { offset: 12, value: 1 << number });
         self.push(Event::Write { offset: 8, value: 1 << number | more });
+        self.push(Event::Call { service: 0, argument: 0, next });
+        self.push(Event::Call { service: 1, argument: 0, next: next.wrapping_add(4) });
+    }
+
+    /// A number injected while others are pending, so that another one is often delivered (D27).
+    fn inject_among_others(&mut self) {
+        let number = self.random.below(32) as u32;
+        let own = u32::from(self.random.percent(70)) << number;
+        let (next, enabled, pending) = (address(self.random), mask(self.random), mask(self.random));
+        self.push(Event::Write { offset: 8, value: own | enabled });
+        self.push(Event::Write { offset: 12, value: pending });
         self.push(Event::Call { service: 2, argument: number, next });
-        self.push(Event::Call { service: 0, argument: 0, next: next.wrapping_add(4) });
-        self.push(Event::Call { service: 1, argument: 0, next: next.wrapping_add(8) });
+        self.push(Event::Call { service: 1, argument: 0, next: next.wrapping_add(4) });
     }
 
     fn generate_and_return(&mut self) {

@@ -39,6 +39,11 @@ impl Vm {
     pub fn ready_at(entry: u32) -> Vm {
         Vm { standing: Standing::Ready, address: entry, ..Vm::default() }
     }
+
+    /// The numbers that are pending and enabled, a bit for each (D11).
+    pub fn deliverable(&self) -> u32 {
+        self.fields[PENDING] & self.fields[ENABLED]
+    }
 }
 
 /// The requests for extra time, oldest first. Places behind the entries hold zero.

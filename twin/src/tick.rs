@@ -105,22 +105,27 @@ impl Core {
         }
     }
 
-    /// Hands the highest number that is pending and enabled to the VM's handler, if there is one.
+    /// Delivers the highest number that is pending and enabled, if there is one (D11).
     pub(crate) fn deliver(&mut self, vm: u8) -> Option<u8> {
-        let flaw = self.flaw;
-        let handler = self.config.vms[usize::from(vm)].handler;
-        let vm = self.vm_mut(vm);
-        let both = vm.fields[state::PENDING] & vm.fields[state::ENABLED];
-        let number = match flaw {
+        let both = self.vm(vm).deliverable();
+        let number = match self.flaw {
             Flaw::LowestNumberFirst => (0..32).find(|bit| both >> bit & 1 == 1)?,
             _ => (0..32).rev().find(|bit| both >> bit & 1 == 1)?,
         };
+        Some(self.hand_over(vm, number))
+    }
+
+    /// Hands a number to the VM's handler and answers it (D12).
+    pub(crate) fn hand_over(&mut self, vm: u8, number: u32) -> u8 {
+        let flaw = self.flaw;
+        let handler = self.config.vms[usize::from(vm)].handler;
+        let vm = self.vm_mut(vm);
         vm.fields[state::REASON] = number;
         vm.fields[state::PREVIOUS_ENABLED] = vm.fields[state::ENABLED];
         vm.fields[state::ENABLED] = 0;
         vm.fields[state::PENDING] &= if flaw == Flaw::ClearsAllPending { 0 } else { !(1 << number) };
         vm.fields[state::RESUME_ADDRESS] = vm.address;
         vm.address = handler;
-        Some(number as u8)
+        number as u8
     }
 }

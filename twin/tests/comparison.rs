@@ -3,7 +3,7 @@
 use std::path::PathBuf;
 use std::process::Command;
 
-use twin::coverage::Coverage;
+use twin::coverage::{never_reached, Coverage};
 use twin::difference::first_parting;
 use twin::edge_reports::edge_reports;
 use twin::flaw::Flaw;
@@ -115,9 +115,9 @@ fn a_wrong_many_is_reported_and_its_files_are_kept() {
     let (outcome, keep) = compare("wrong-many", &many, &format!("{TWIN} run"), "200");
     assert!(!outcome.well);
     assert!(outcome.text.starts_with("difference: seed 4, case 0, program many\n"), "{}", outcome.text);
-    assert!(outcome.text.contains("first differing event: 30: call service 0"), "{}", outcome.text);
-    assert!(outcome.text.contains("expected answer: 30 0 0 00001004 1 0 0"), "{}", outcome.text);
-    assert!(outcome.text.contains("got answer:      30 0 0 00001004 0 0 0"), "{}", outcome.text);
+    assert!(outcome.text.contains("first differing event: 34: call service 0"), "{}", outcome.text);
+    assert!(outcome.text.contains("expected answer: 34 0 0 00001004 1 0 0"), "{}", outcome.text);
+    assert!(outcome.text.contains("got answer:      34 0 0 00001004 0 0 0"), "{}", outcome.text);
     let kept = keep.join("seed-4-case-0-program-many");
     let again = Command::new(TWIN).arg("run").arg(&kept).output().expect("the twin starts");
     let expected = std::fs::read_to_string(kept.join("expected")).expect("kept");
@@ -156,7 +156,7 @@ fn too_few_cases_are_said_to_be_too_few() {
 fn every_wrong_twin_is_told_apart() {
     let (text, well) = selftest(1, 400);
     assert!(well, "{text}");
-    assert_eq!(text.matches("told apart at case").count(), 22);
+    assert_eq!(text.matches("told apart at case").count(), 23);
     assert_eq!(text.matches("told apart at folder").count(), 19);
     let (text, well) = selftest(1, 1);
     assert!(!well && text.contains("NEVER told apart in 1 cases"));
@@ -174,6 +174,19 @@ fn the_edge_cases_alone_reach_every_point() {
         assert_eq!(coverage.missing(), Vec::<String>::new(), "seed {seed}");
     }
     assert!(!Coverage::default().missing().is_empty());
+}
+
+#[test]
+fn the_random_cases_alone_reach_every_point_of_service_2() {
+    let maker = CaseMaker::new(1);
+    let mut coverage = Coverage::default();
+    for number in maker.edge_count()..maker.edge_count() + 1_000 {
+        coverage.observe(&maker.case(number));
+    }
+    let mut points = coverage.points();
+    points.retain(|(name, _)| name.starts_with("run: service 2 ") || name.ends_with(" at inject"));
+    assert_eq!(points.len(), 7 + 32, "{points:?}");
+    assert_eq!(never_reached(points), Vec::<String>::new());
 }
 
 #[test]

@@ -10,7 +10,7 @@ use twin::flaw::Flaw;
 use twin::generate_image::legal_config;
 use twin::generate_values::any_event;
 use twin::random::Random;
-use twin::state::{Standing, Vm, ENABLED, PENDING, TICKS_WHILE_RUNNING};
+use twin::state::{Standing, Vm, ENABLED, PENDING, RESUME_ADDRESS, TICKS_WHILE_RUNNING};
 
 fn with_queue(size: u8) -> Config {
     let mut config = worked_config();
@@ -18,20 +18,34 @@ fn with_queue(size: u8) -> Config {
     config
 }
 
+/// The answer of an event that is done and delivers to VM 0.
+fn delivered_to_vm_0(number: u8) -> Answer {
+    Answer { running: Some(0), address: 0x1004, delivered: Some(number), ..Answer::default() }
+}
+
 #[test]
-fn p9_inject_only_makes_the_number_pending() {
+fn p9_inject_delivers_at_once() {
     let mut core = core_with(&[Event::Start, tick(0), write(8, 0x08)]);
-    let answer = core.apply(call(2, 3, 0x1030));
-    assert_eq!((answer.refusal, answer.delivered, answer.address), (0, None, 0x1030));
-    assert_eq!(core.state.vms[0].fields[PENDING], 0x08);
+    assert_eq!(core.apply(call(2, 3, 0x1030)), delivered_to_vm_0(3));
+    assert_eq!(core.state.vms[0].fields, [1, 2, 0, 0, 0x1030, 3, 0x08, 0, 0, 1]);
     let answer = core.apply(call(0, 0, 0x1034));
-    assert_eq!((answer.delivered, answer.address), (Some(3), 0x1004));
+    assert_eq!((answer.delivered, answer.address), (None, 0x1034));
+}
+
+#[test]
+fn p9_inject_delivers_the_highest_number_and_its_own_waits() {
+    let mut core = core_with(&[Event::Start, tick(0), write(8, 0x88), write(12, 0x80)]);
+    assert_eq!(core.apply(call(2, 3, 0x1030)), delivered_to_vm_0(7));
+    assert_eq!(core.state.vms[0].fields, [1, 2, 0, 0x08, 0x1030, 7, 0x88, 0, 0, 1]);
+    assert_eq!(core.apply(call(1, 0, 0x1034)), delivered_to_vm_0(3));
+    assert_eq!(core.state.vms[0].fields, [1, 2, 0, 0, 0x1030, 3, 0x88, 0, 0, 1]);
 }
 
 #[test]
 fn p10_argument_31_is_taken_and_32_is_an_error() {
     let mut core = core_with(&[Event::Start, tick(0)]);
-    assert_eq!(core.apply(call(2, 31, 0x1030)).notice, Notice::default());
+    let answer = core.apply(call(2, 31, 0x1030));
+    assert_eq!(answer, Answer { running: Some(0), address: 0x1030, ..Answer::default() });
     assert_eq!(core.state.vms[0].fields[PENDING], 0x8000_0000);
     let answer = core.apply(call(2, 32, 0x1034));
     assert_eq!(answer.notice, Notice { number: 3, vm: 0, code: 2, data: 32 });
@@ -217,8 +231,75 @@ fn delivery_takes_the_highest_and_clears_only_that_bit() {
 
 #[test]
 fn number_0_can_be_delivered() {
-    let mut core = core_with(&[Event::Start, tick(0), write(8, 1), call(2, 0, 0x1020)]);
+    let mut core = core_with(&[Event::Start, tick(0), write(8, 1), write(12, 1)]);
     assert_eq!(core.apply(call(0, 0, 0x1024)).delivered, Some(0));
+}
+
+#[test]
+fn every_number_is_delivered_by_its_own_inject_once_enabled() {
+    for number in 0..32 {
+        let mut core = core_with(&[Event::Start, tick(0), write(8, 1 << number)]);
+        assert_eq!(core.apply(call(2, number, 0x1020)), delivered_to_vm_0(number as u8));
+        assert_eq!(core.state.vms[0].fields, [1, 2, 0, 0, 0x1020, number, 1 << number, 0, 0, 1]);
+    }
+}
+
+#[test]
+fn an_injected_number_that_is_not_enabled_waits_for_a_later_moment() {
+    for moment in [call(0, 0, 0x1044), call(2, 3, 0x1044), tick(0x1044)] {
+        let mut core = core_with(&[Event::Start, tick(0), write(8, 0x77)]);
+        let answer = core.apply(call(2, 3, 0x1030));
+        assert_eq!(answer, Answer { running: Some(0), address: 0x1030, ..Answer::default() });
+        assert_eq!(core.state.vms[0].fields, [1, 2, 0x77, 0x08, 0, 0, 0, 0, 0, 1]);
+        assert_eq!(core.apply(write(8, 0x08)).delivered, None);
+        assert_eq!(core.apply(moment), delivered_to_vm_0(3), "{moment:?}");
+    }
+}
+
+#[test]
+fn an_inject_delivers_another_number_where_its_own_is_not_enabled() {
+    let mut core = core_with(&[Event::Start, tick(0), write(8, 0x02), write(12, 0x42)]);
+    assert_eq!(core.apply(call(2, 5, 0x1030)), delivered_to_vm_0(1));
+    assert_eq!(core.state.vms[0].fields, [1, 2, 0, 0x60, 0x1030, 1, 0x02, 0, 0, 1]);
+}
+
+#[test]
+fn an_inject_over_31_delivers_nothing() {
+    for argument in [32, 33, 63, 0x1_0003, u32::MAX] {
+        let events = [Event::Start, tick(0), write(8, u32::MAX), write(12, 0x8000_0088)];
+        let mut core = core_with(&events);
+        let fields = core.state.vms[0].fields;
+        let notice = Notice { number: 3, vm: 0, code: 2, data: argument };
+        assert_eq!(core.apply(call(2, argument, 0x1030)), Answer { notice, ..Answer::default() });
+        assert_eq!(core.state.vms[0].fields, fields);
+        assert_eq!((core.state.vms[0].standing, core.state.vms[0].address), (Standing::InError, 0x1030));
+    }
+}
+
+#[test]
+fn the_handler_returns_to_the_next_address_of_the_inject() {
+    for next in [0, 0x1030, u32::MAX] {
+        let mut core = core_with(&[Event::Start, tick(0), write(8, 0x10), call(2, 4, next)]);
+        assert_eq!(core.state.vms[0].fields[RESUME_ADDRESS], next);
+        let answer = core.apply(call(1, 0, 0x5555));
+        assert_eq!((answer.delivered, answer.address), (None, next));
+        assert_eq!(core.state.vms[0].fields[ENABLED], 0x10);
+    }
+}
+
+#[test]
+fn the_wrong_injects_wait_or_deliver_their_own() {
+    let delivered = |flaw, enabled| {
+        let mut core = Core::fresh(worked_config(), flaw);
+        for event in [Event::Start, tick(0), write(8, enabled), write(12, 0x80)] {
+            assert_eq!(core.apply(event).refusal, 0, "{event:?}");
+        }
+        (core.apply(call(2, 3, 0x1030)).delivered, core.state.vms[0].fields[PENDING])
+    };
+    assert_eq!(delivered(Flaw::None, 0x88), (Some(7), 0x08));
+    assert_eq!(delivered(Flaw::InjectWaits, 0x88), (None, 0x88));
+    assert_eq!(delivered(Flaw::InjectItsOwn, 0x88), (Some(3), 0x80));
+    assert_eq!(delivered(Flaw::InjectItsOwn, 0x80), (Some(7), 0x08));
 }
 
 #[test]

@@ -4,7 +4,7 @@ use lib.Dec.{eqb, leb}
 use mathlib.Core.Bool.{Bool}
 use Rattle.basis.specs.Choice.{pick}
 use Rattle.config.specs.Sizes.{handlerAt, isSpare, ownerAt}
-use Rattle.core.specs.Changes.{answering, changedBy, deliveringFrom, ending, endingFrom, failing, failingFrom, noticeOf, queueing, queueingFrom, renewed, renewedFrom, restarting, turnedAwayFrom}
+use Rattle.core.specs.Changes.{answering, changedBy, deliveringFrom, ending, endingFrom, failing, failingFrom, noticeOf, queueing, queueingFrom, renewed, restarting, turnedAwayFrom}
 use Rattle.core.specs.Refusals.{noNotice, refusalOf, refused, rowOf}
 use Rattle.core.specs.State.{full, nobody, vmAt}
 use Rattle.core.specs.declared.Change.{Change}
@@ -54,7 +54,7 @@ unfoldable pub calledFrom : ℕ → Queue → Bool → ℕ → ℕ → ℕ → �
 calledFrom running queue noRoom handler v service argument vm =
     pick (eqb service 0) (deliveringFrom running queue v (deliver handler vm))
     (pick (eqb service 1) (deliveringFrom running queue v (deliver handler (backFrom vm)))
-    (pick (eqb service 2) (pick (leb argument 31) (renewedFrom running queue v (pend argument vm) nobody) (failingFrom running queue v vm 2 argument))
+    (pick (eqb service 2) (pick (leb argument 31) (deliveringFrom running queue v (deliver handler (pend argument vm))) (failingFrom running queue v vm 2 argument))
     (pick (eqb service 3) (endingFrom running queue v vm 3 (noticeOf 2 v))
     (pick (eqb service 4) (pick noRoom (turnedAwayFrom running queue v vm) (queueingFrom running queue v vm))
     (failingFrom running queue v vm 1 service)))))

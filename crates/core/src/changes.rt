@@ -8,9 +8,10 @@ use queue::Queue;
 ghost use lib.Dec.{leb};
 ghost use mathlib.Core.Path.{_≡_};
 ghost use Rattle.basis.specs.Choice.{pick};
-ghost use Rattle.core.specs.Changes.{endingFrom, errorOf, failingFrom, noticeWith, queueWithout, renewedFrom, runningWithout, turnedAwayFrom};
+ghost use Rattle.core.specs.Changes.{deliveringFrom, endingFrom, errorOf, failingFrom, noticeWith, queueWithout, renewedFrom, runningWithout, turnedAwayFrom};
 ghost use Rattle.core.specs.Events.{calledFrom};
 ghost use Rattle.core.specs.State.{full, nobody};
+ghost use Rattle.guest.specs.Deliver.{deliver};
 ghost use Rattle.guest.specs.Record.{pend, startedAt};
 ghost use Rattle.queue.specs.Entries.{pushed};
 ghost use Rattle.vms.specs.Tick.{numberOf};
@@ -138,7 +139,7 @@ pub fn called(
         return delivering(v, vm.returned().delivered(handler), running, queue);
     }
     if service == 2 {
-        return injected(v, vm, running, queue, argument);
+        return injected(v, vm, running, queue, handler, argument);
     }
     if service == 3 {
         return ending(v, vm, Vm::SHUT, running, queue, notice(2, v, 0, 0));
@@ -152,18 +153,14 @@ pub fn called(
     failing(v, vm, running, queue, 1, service as u32)
 }
 
-// D27.
-fn injected(v: u8, vm: Vm, running: u8, queue: Queue, argument: u32) -> Change
-    ensures { λ r. ⌜ r ≡ pick (leb argument 31) (renewedFrom running queue v (pend argument vm) nobody) (failingFrom running queue v vm 2 argument) ⌝ }
+// D27: the number becomes pending, then there is a delivery.
+fn injected(v: u8, vm: Vm, running: u8, queue: Queue, handler: u32, argument: u32) -> Change
+    ensures { λ r. ⌜ r ≡ pick (leb argument 31) (deliveringFrom running queue v (deliver handler (pend argument vm))) (failingFrom running queue v vm 2 argument) ⌝ }
 {
     if argument <= 31 {
-        return renewed(
-            v,
-            vm.pended(argument as u8),
-            running,
-            queue,
-            Answer::NOTHING,
-        );
+        let pended = vm.pended(argument as u8);
+        let given = pended.delivered(handler);
+        return delivering(v, given, running, queue);
     }
     failing(v, vm, running, queue, 2, argument)
 }

@@ -99,7 +99,7 @@ module _ (f : Vm → ℕ) (steady : Steady f) (g : Config) (d : Given g) (v : �
     call-keeps s n at =
         change-keeps f c v (called c (c .running) s n w)
         (call-case (λ (x : Change). f (x .vm) ≡ f (vmAt c (x .place))) (c .running) (c .queue) (full c) (handlerAt (c .config) (c .running)) (c .running) s n w
-        (λ h. steady .given _ w ∙ old) (λ h. steady .given _ (backFrom w) ∙ steady .back w ∙ old) (λ h i. steady .pended n w ∙ old) (λ h i. steady .ended 4 w ∙ old)
+        (λ h. steady .given _ w ∙ old) (λ h. steady .given _ (backFrom w) ∙ steady .back w ∙ old) (λ h i. steady .given _ (pend n w) ∙ steady .pended n w ∙ old) (λ h i. steady .ended 4 w ∙ old)
         (λ h. steady .ended 3 w ∙ old) (λ h i. old) (λ h i. old) (λ h. steady .ended 4 w ∙ old))
       where
         w : Vm

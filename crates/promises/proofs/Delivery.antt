@@ -4,14 +4,14 @@ use borrow.Author.Tests.{eq-eqb, le-leb, ne-eqb}
 use lib.Bits.{bitOr}
 use lib.ListN.{getD, set}
 use lib.Seq.{getD-set-same}
-use mathlib.Core.Bool.{true}
+use mathlib.Core.Bool.{false, true}
 use mathlib.Core.Path.{ap, refl, subst, sym, _∙_, _≡_}
 use native.Mathlib.Omega.{arith}
 use Rattle.basis.proofs.Laws.{false-true}
 use Rattle.basis.specs.Choice.{both}
 use Rattle.config.specs.Sizes.{handlerAt}
 use Rattle.config.specs.declared.Config.{Config}
-use Rattle.core.specs.Changes.{changedBy, deliveringFrom, renewedFrom}
+use Rattle.core.specs.Changes.{changedBy, deliveringFrom}
 use Rattle.core.specs.Events.{called, calledFrom, done, stepOf, tickClock, tickTurn}
 use Rattle.core.specs.Refusals.{refused, rowOf}
 use Rattle.core.specs.Sound.{sound}
@@ -33,7 +33,7 @@ use Rattle.promises.proofs.Slices.{vm-small}
 use Rattle.promises.proofs.Starting.{count-few}
 use Rattle.promises.proofs.Steps.{Reached, ours-at}
 use Rattle.promises.proofs.Ticks.{passed-address, passed-status, passedOf, tick-enters, tick-number, tick-passes, tick-silent}
-use Rattle.promises.specs.Demands.{Delivered, Delivers, DeliversAtCall, DeliversAtTick, DeliversBy, DeliversOf, Enters, GoesOn, Offer, dueOf, returnOffer, syncOffer, tickOffer}
+use Rattle.promises.specs.Demands.{Delivered, Delivers, DeliversAtCall, DeliversAtTick, DeliversBy, DeliversOf, Enters, GoesOn, Offer, callDelivers, dueOf, tickOffer}
 use Rattle.promises.specs.History.{Given, Moment, moment, momentOf, stateOf, ticksOf}
 use Rattle.soundness.proofs.Facts.{running-below, sound-is}
 use Rattle.soundness.proofs.Refused.{done-number}
@@ -119,23 +119,33 @@ module _ (g : Config) (d : Given g) (k : ℕ) (c : Core) (p : Reached g k c) whe
     unfolding calledFrom
     return-is h = rw h
 
-    inject-is : s ≡ 2 → n ≤ 31 → called c (c .running) s n vm ≡ renewedFrom (c .running) (c .queue) (c .running) (pend n vm) nobody
+    inject-is : s ≡ 2 → n ≤ 31 → called c (c .running) s n vm ≡ deliveringFrom (c .running) (c .queue) (c .running) (deliver (handlerAt (c .config) (c .running)) (pend n vm))
     unfolding calledFrom
     inject-is h i = rw (h, le-leb n 31 i)
 
-    injected : n ≤ 31 → pend n vm .status .pending ≡ setBit n (vmAt c (c .running) .status .pending)
+    injected : n ≤ 31 → (pend n vm .status .pending ≡ setBit n (vmAt c (c .running) .status .pending)) × (pend n vm .status .enabled ≡ vmAt c (c .running) .status .enabled)
     unfolding pend
-    injected i = rw (le-leb n 31 i)
+    injected i = rw (le-leb n 31 i) (refl, refl)
 
-    call-silent : 1 < s → called c (c .running) s n vm .delivered ≡ nobody
+    -- a Call that delivers to x
+    call-gives : (x : Vm) (pending enabled address : ℕ) → x .status .pending ≡ pending → x .status .enabled ≡ enabled → x .address ≡ address
+        → called c (c .running) s n vm ≡ deliveringFrom (c .running) (c .queue) (c .running) (deliver (handlerAt (c .config) (c .running)) x)
+        → Delivered g (record { vm = c .running; pending = pending; enabled = enabled; address = address }) (momentOf k c (Call s n at) (done c (Call s n at)))
+    call-gives x pending enabled address a b e h =
+        let hd : ℕ = handlerAt (c .config) (c .running) in
+        let o : Offer = record { vm = c .running; pending = pending; enabled = enabled; address = address } in
+        call-is _ h (Delivered g o)
+        (delivered hd x o a b e g (of (deliveringFrom (c .running) (c .queue) (c .running) (deliver hd x))) refl (stored-at (c .running) _ low) (handler-same (c .running)))
+
+    call-silent : callDelivers s n ≡ false → called c (c .running) s n vm .delivered ≡ nobody
     call-silent h =
         call-case (λ (x : Change). x .delivered ≡ nobody) (c .running) (c .queue) (full c) (handlerAt (c .config) (c .running)) (c .running) s n vm
-        (λ e. absurd (omega arith)) (λ e. absurd (omega arith)) (λ e i. refl) (λ e i. refl) (λ e. refl) (λ e i. refl) (λ e i. refl) (λ e. refl)
+        (λ e. false-true (sym (rw e at h))) (λ e. false-true (sym (rw e at h))) (λ e i. false-true (sym (rw (e, le-leb n 31 i) at h))) (λ e i. refl) (λ e. refl) (λ e i. refl) (λ e i. refl) (λ e. refl)
 
-    call-saves : 1 < s → vmAt (changedBy c (called c (c .running) s n vm) .core) (c .running) .address ≡ at
+    call-saves : callDelivers s n ≡ false → vmAt (changedBy c (called c (c .running) s n vm) .core) (c .running) .address ≡ at
     call-saves h =
         call-case (λ (x : Change). vmAt (changedBy c x .core) (c .running) .address ≡ at) (c .running) (c .queue) (full c) (handlerAt (c .config) (c .running)) (c .running) s n vm
-        (λ e. absurd (omega arith)) (λ e. absurd (omega arith)) (λ e i. stays (pend n vm) (pend-address n vm)) (λ e i. stays (endedAs 4 vm) refl)
+        (λ e. false-true (sym (rw e at h))) (λ e. false-true (sym (rw e at h))) (λ e i. false-true (sym (rw (e, le-leb n 31 i) at h))) (λ e i. stays (endedAs 4 vm) refl)
         (λ e. stays (endedAs 3 vm) refl) (λ e i. stays vm refl) (λ e i. stays vm refl) (λ e. stays (endedAs 4 vm) refl)
       where
         stays : (w : Vm) → w .address ≡ at → getD (set (c .vms) (c .running) w) (c .running) fresh .address ≡ at
@@ -144,14 +154,11 @@ module _ (g : Config) (d : Given g) (k : ℕ) (c : Core) (p : Reached g k c) whe
     call-delivers : DeliversAtCall g s n at (momentOf k c (Call s n at) (done c (Call s n at)))
     call-delivers =
         record {
-          sync = λ h. call-is _ (sync-is h) (Delivered g (syncOffer c at))
-              (delivered (handlerAt (c .config) (c .running)) vm (syncOffer c at) refl refl refl g (of (deliveringFrom (c .running) (c .queue) (c .running) (deliver (handlerAt (c .config) (c .running)) vm))) refl (stored-at (c .running) _ low) (handler-same (c .running)));
-          return = λ h. call-is _ (return-is h) (Delivered g (returnOffer c))
-              (delivered (handlerAt (c .config) (c .running)) (backFrom vm) (returnOffer c) refl refl refl g (of (deliveringFrom (c .running) (c .queue) (c .running) (deliver (handlerAt (c .config) (c .running)) (backFrom vm)))) refl (stored-at (c .running) _ low) (handler-same (c .running)));
+          sync = λ h. call-gives vm _ _ _ refl refl refl (sync-is h);
+          return = λ h. call-gives (backFrom vm) _ _ _ refl refl refl (return-is h);
+          inject = λ h i. call-gives (pend n vm) _ _ _ (injected i .0) (injected i .1) (pend-address n vm) (inject-is h i);
           never = λ h. call-is (called c (c .running) s n vm) refl (λ (m : Moment). m .answer .delivered ≡ nobody) (call-silent h);
           saved = λ h. call-is (called c (c .running) s n vm) refl (λ (m : Moment). vmAt (m .after) (m .before .running) .address ≡ at) (call-saves h);
-          waits = λ h i. call-is _ (inject-is h i) (λ (m : Moment). vmAt (m .after) (m .before .running) .status .pending ≡ setBit n (vmAt (m .before) (m .before .running) .status .pending))
-              (ap (λ (w : Vm). w .status .pending) (stored-at (c .running) (pend n vm) low) ∙ injected i);
         }
 
   eleven : (w : Vm) → pend 11 w .status .pending ≡ setBit 11 (w .status .pending)

@@ -25,7 +25,7 @@ use Rattle.promises.specs.Examples.{example}
 use Rattle.promises.specs.History.{Given, after, countAfter, moments, next, sinceLast, stateAfter, times}
 use Rattle.promises.specs.Moments.{asks, begins, ends, entriesOf, handed, naming, ranIn, spare, tableTo}
 use Rattle.promises.specs.Queueing.{effect, entriesNot, marked, plain, removes, servedIn}
-use Rattle.promises.specs.Worthless.{chargesSpare, deliverEmpty, deliverLow, emptiesPending, forgetsAddress, idleAlways, invents, leavesEntries, lowest, lowestFirst, movesAtStop, newestFirst, raisesCopy, refusesAll, repeatsFirst, shutsAtOnce, untouched}
+use Rattle.promises.specs.Worthless.{chargesSpare, deliverEmpty, deliverLow, emptiesPending, forgetsAddress, idleAlways, injectWaits, injectsItsOwn, invents, leavesEntries, lowest, lowestFirst, movesAtStop, newestFirst, raisesCopy, refusesAll, repeatsFirst, shutsAtOnce, untouched}
 use Rattle.queue.specs.Entries.{frontOf, others, paddedOf, pushed, rest}
 use Rattle.table.specs.Position.{nextClock}
 use Rattle.vms.specs.Records.{each, restFresh}
@@ -132,6 +132,16 @@ lowest-fails h = let z : _≡_ {A = ℕ} 3 7 = h (example 1) given-1 (Start ∷ 
 pub lowest-tick-fails : Delivers lowestFirst → ⊥
 unfolding stepOf refusalOf rowOf sound queuedReady noneReady standingsKnown done startCore tickClock tickTurn tickQueue calledFrom runningWithout refused innerOf legal durationsFit ownersFit vmsServed hasSlot vmsRest slotsRest every some upTo joined isField stored write due deliver enter shown highest setBit clearBit pend isFresh isBlank frontOf rest others pushed paddedOf nextClock each restFresh saving runnerOf entering turnBy passed turn moments stateAfter countAfter times sinceLast tableTo naming asks begins ends entriesOf effect entriesNot servedIn firstOf linesOf deliverLow lowest
 lowest-tick-fails h = let z : _≡_ {A = ℕ} 3 7 = h (example 1) given-1 (Start ∷ Tick 0 ∷ Write 12 136 ∷ Write 8 136 ∷ []) (Tick 0x1010) .accepted refl .to-runner 0 (omega arith) refl .number in omega arith
+
+-- D27: the demand on delivery, with 3 enabled and injected
+pub waits-fails : Delivers injectWaits → ⊥
+unfolding stepOf refusalOf rowOf sound queuedReady noneReady standingsKnown done startCore tickClock tickTurn tickQueue calledFrom runningWithout refused innerOf legal durationsFit ownersFit vmsServed hasSlot vmsRest slotsRest every some upTo joined isField stored write due deliver enter shown highest setBit clearBit pend isFresh isBlank frontOf rest others pushed paddedOf nextClock each restFresh saving runnerOf entering turnBy passed turn moments stateAfter countAfter times sinceLast tableTo naming asks begins ends entriesOf effect entriesNot servedIn firstOf linesOf
+waits-fails h = let z : _≡_ {A = ℕ} 255 3 = h (example 1) given-1 (Start ∷ Tick 0 ∷ Write 8 8 ∷ []) (Call 2 3 0x1030) .accepted refl .inject refl (omega arith) .number in omega arith
+
+-- D27: the demand on delivery, with 7 pending and 3 injected, both enabled
+pub own-fails : Delivers injectsItsOwn → ⊥
+unfolding stepOf refusalOf rowOf sound queuedReady noneReady standingsKnown done startCore tickClock tickTurn tickQueue calledFrom runningWithout refused innerOf legal durationsFit ownersFit vmsServed hasSlot vmsRest slotsRest every some upTo joined isField stored write due deliver enter shown highest setBit clearBit pend isFresh isBlank frontOf rest others pushed paddedOf nextClock each restFresh saving runnerOf entering turnBy passed turn moments stateAfter countAfter times sinceLast tableTo naming asks begins ends entriesOf effect entriesNot servedIn firstOf linesOf
+own-fails h = let z : _≡_ {A = ℕ} 3 7 = h (example 1) given-1 (Start ∷ Tick 0 ∷ Write 12 128 ∷ Write 8 136 ∷ []) (Call 2 3 0x1030) .accepted refl .inject refl (omega arith) .number in omega arith
 
 -- M5: the demand on delivery
 pub at-once-fails : Delivers shutsAtOnce → ⊥

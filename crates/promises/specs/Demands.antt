@@ -6,7 +6,7 @@ use lib.ListN.{length}
 use mathlib.Core.Bool.{Bool, false, not, true}
 use mathlib.Core.List.{List, map, [], _++_, _∷_}
 use mathlib.Core.Path.{_≡_}
-use Rattle.basis.specs.Choice.{both, pick}
+use Rattle.basis.specs.Choice.{both, either, pick}
 use Rattle.config.specs.Sizes.{durationAt, entryAt, handlerAt, ownerAt}
 use Rattle.config.specs.declared.Config.{Config}
 use Rattle.core.specs.Changes.{errorOf, noticeOf}
@@ -190,6 +190,15 @@ abbrev pub returnOffer : Core → Offer
 returnOffer c =
     record { vm = c .running; pending = vmAt c (c .running) .status .pending; enabled = vmAt c (c .running) .status .previous; address = vmAt c (c .running) .status .resume }
 
+-- D27: n is pending too
+abbrev pub injectOffer : Core → ℕ → ℕ → Offer
+injectOffer c n at =
+    record { vm = c .running; pending = setBit n (vmAt c (c .running) .status .pending); enabled = vmAt c (c .running) .status .enabled; address = at }
+
+-- D13: the Calls that deliver: services 0 and 1, and 2 with a number up to 31
+abbrev pub callDelivers : ℕ → ℕ → Bool
+callDelivers s n = either (leb s 1) (both (eqb s 2) (leb n 31))
+
 -- D11: the highest number that is pending and enabled
 abbrev pub dueOf : Offer → Found
 dueOf o = highest (λ n. both (bit n (o .pending)) (bit n (o .enabled))) 32
@@ -222,14 +231,14 @@ pub record DeliversAtTick (g : Config) (at : ℕ) (m : Moment) : Type 0 where
   -- D3: of those that do not run now, the VM that was running is to go on at the address given, every other where it was
   pub addresses : (w : ℕ) → w < g .count → (m .answer .running ≡ w → ⊥) → vmAt (m .after) w .address ≡ pick (eqb w (m .before .running)) at (vmAt (m .before) w .address)
 
--- a Call delivers with services 0 and 1; an injected number only waits
+-- a Call delivers with services 0, 1 and 2, and with no other
 pub record DeliversAtCall (g : Config) (service argument at : ℕ) (m : Moment) : Type 0 where
   pub sync : service ≡ 0 → Delivered g (syncOffer (m .before) at) m
   pub return : service ≡ 1 → Delivered g (returnOffer (m .before)) m
-  pub never : 1 < service → m .answer .delivered ≡ nobody
-  pub waits : service ≡ 2 → argument ≤ 31 → vmAt (m .after) (m .before .running) .status .pending ≡ setBit argument (vmAt (m .before) (m .before .running) .status .pending)
+  pub inject : service ≡ 2 → argument ≤ 31 → Delivered g (injectOffer (m .before) argument at) m
+  pub never : callDelivers service argument ≡ false → m .answer .delivered ≡ nobody
   -- D24: the next address is stored, for a VM that the Call ends too
-  pub saved : 1 < service → vmAt (m .after) (m .before .running) .address ≡ at
+  pub saved : callDelivers service argument ≡ false → vmAt (m .after) (m .before .running) .address ≡ at
 
 -- D17: the master's Shutdown only sets bit 11
 pub record DeliversNot (v : ℕ) (m : Moment) : Type 0 where

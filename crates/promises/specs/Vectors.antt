@@ -75,14 +75,15 @@ judged bs = readImage bs .fault ∷ readImage bs .offset ∷ []
 abbrev pub smallImage : ℕ → ℕ → ℕ → List ℕ
 smallImage q lo hi = 1 ∷ 1 ∷ q ∷ 2 ∷ 0 ∷ 16 ∷ 0 ∷ 0 ∷ 4 ∷ 16 ∷ 0 ∷ 0 ∷ 3 ∷ 0 ∷ lo ∷ hi ∷ 4 ∷ []
 
--- VM 0 after a Call, psIntEnabled being x: standing, psIntPending, address, then refusal, delivered, and the notice
+-- VM 0 after a Call: standing, psIntPending, psIntResumeAddress, address, then refusal, delivered, and the notice
 abbrev pub shownBy : Moment → List ℕ
 shownBy m =
-    vmAt (m .after) 0 .standing ∷ vmAt (m .after) 0 .status .pending ∷ vmAt (m .after) 0 .address ∷ m .answer .refusal ∷ m .answer .delivered
-    ∷ m .answer .notice .kind ∷ m .answer .notice .vm ∷ m .answer .notice .code ∷ m .answer .notice .detail ∷ []
+    vmAt (m .after) 0 .standing ∷ vmAt (m .after) 0 .status .pending ∷ vmAt (m .after) 0 .status .resume ∷ vmAt (m .after) 0 .address
+    ∷ m .answer .refusal ∷ m .answer .delivered ∷ m .answer .notice .kind ∷ m .answer .notice .vm ∷ m .answer .notice .code ∷ m .answer .notice .detail ∷ []
 
-unfoldable pub callShown : ℕ → Event → List ℕ
-callShown x e = getD (map shownBy (history stepOf (example 1) (Start ∷ Tick 0 ∷ Write 8 x ∷ e ∷ []))) 3 []
+-- the same, psIntEnabled being x and psIntPending y before it
+unfoldable pub callShown : ℕ → ℕ → Event → List ℕ
+callShown x y e = getD (map shownBy (history stepOf (example 1) (Start ∷ Tick 0 ∷ Write 8 x ∷ Write 12 y ∷ e ∷ []))) 4 []
 
 -- the state after Start, with VM 0's ticks run at n
 abbrev pub ranState : ℕ → Core
@@ -125,8 +126,9 @@ vectors =
     ∷ vector (InP 7) (judged (smallImage 0 0xE9 3)) (25 ∷ 12 ∷ [])
     ∷ vector (InP 8) (judged (smallImage 16 1 0)) (0 ∷ 0 ∷ [])
     ∷ vector (InP 8) (judged (smallImage 17 1 0)) (22 ∷ 0 ∷ [])
-    ∷ vector (InP 9) (callShown 0x08 (Call 2 3 0x1030)) (1 ∷ 0x08 ∷ 0x1030 ∷ 0 ∷ 255 ∷ 0 ∷ 0 ∷ 0 ∷ 0 ∷ [])
-    ∷ vector (InP 10) (callShown 0 (Call 2 31 0x1030)) (1 ∷ 0x80000000 ∷ 0x1030 ∷ 0 ∷ 255 ∷ 0 ∷ 0 ∷ 0 ∷ 0 ∷ [])
-    ∷ vector (InP 10) (callShown 0 (Call 2 32 0x1030)) (4 ∷ 0 ∷ 0x1030 ∷ 0 ∷ 255 ∷ 3 ∷ 0 ∷ 2 ∷ 32 ∷ [])
+    ∷ vector (InP 9) (callShown 0x08 0 (Call 2 3 0x1030)) (1 ∷ 0 ∷ 0x1030 ∷ 0x1004 ∷ 0 ∷ 3 ∷ 0 ∷ 0 ∷ 0 ∷ 0 ∷ [])
+    ∷ vector (InP 9) (callShown 0x88 0x80 (Call 2 3 0x1030)) (1 ∷ 0x08 ∷ 0x1030 ∷ 0x1004 ∷ 0 ∷ 7 ∷ 0 ∷ 0 ∷ 0 ∷ 0 ∷ [])
+    ∷ vector (InP 10) (callShown 0 0 (Call 2 31 0x1030)) (1 ∷ 0x80000000 ∷ 0 ∷ 0x1030 ∷ 0 ∷ 255 ∷ 0 ∷ 0 ∷ 0 ∷ 0 ∷ [])
+    ∷ vector (InP 10) (callShown 0 0 (Call 2 32 0x1030)) (4 ∷ 0 ∷ 0 ∷ 0x1030 ∷ 0 ∷ 255 ∷ 3 ∷ 0 ∷ 2 ∷ 32 ∷ [])
     ∷ vector (InP 11) (ranShown (stepOf (ranState 4294967295) (Tick 0))) (0 ∷ 0 ∷ 0 ∷ [])
     ∷ []

@@ -1,6 +1,6 @@
 -- Behaviours that are not to pass: worthless cores, and ours with one easy mistake in it (M1 to M5).
 use Prim.Native.Nat.{suc, zero, ℕ, _%_, _+_, _-_, _^_}
-use lib.Dec.{eqb, leb, ltb}
+use lib.Dec.{eqb, ltb}
 use lib.ListN.{getD, set}
 use mathlib.Core.Bool.{Bool, not}
 use mathlib.Core.List.{List, _∷_}
@@ -21,6 +21,7 @@ use Rattle.guest.specs.declared.Delivery.{Delivery}
 use Rattle.guest.specs.declared.Found.the-variants.{At, Nothing}
 use Rattle.guest.specs.declared.Found.{Found}
 use Rattle.guest.specs.declared.Vm.{Vm}
+use Rattle.promises.specs.Demands.{callDelivers}
 use Rattle.promises.specs.History.{Behaviour}
 use Rattle.queue.specs.Entries.{entries, frontOf, ofList}
 use Rattle.queue.specs.declared.Queue.{Queue}
@@ -160,7 +161,7 @@ movesAtStop c (Call s n at) = stepOf c (Call s n at)
 movesAtStop c (Write o x) = stepOf c (Write o x)
 movesAtStop c (Fault k d) = stepOf c (Fault k d)
 
--- ours, with another delivery d in a tick and in services 0 and 1
+-- ours, with another delivery d in a tick and in services 0 and 1, and another delivery i where n was injected
 abbrev pub enteringBy : (ℕ → Vm → Delivery) → ℕ → ℕ → List ℕ → List Vm → Delivery
 enteringBy d who left handlers l = pick (ltb who 8) (d (getD handlers who 0) (shown left (getD l who fresh))) (quiet (getD l who fresh))
 
@@ -172,22 +173,25 @@ tickBy d c at =
     turnWith d (runnerOf (tickOwner c) (frontOf (entries (c .queue))) (passed (c .running) at (c .config .count) (c .vms))) (tickClock c .left) (c .config .handlers)
     (passed (c .running) at (c .config .count) (c .vms))
 
-abbrev pub deliveringBy : (ℕ → Vm → Delivery) → Core → Event → Stepped
-deliveringBy d c Start = innerOf c Start
-deliveringBy d c (Tick at) =
+abbrev pub callBy : (ℕ → Vm → Delivery) → (ℕ → ℕ → Vm → Delivery) → ℕ → ℕ → ℕ → Vm → Delivery
+callBy d i s n handler v = pick (eqb s 0) (d handler v) (pick (eqb s 1) (d handler (backFrom v)) (i n handler (pend n v)))
+
+abbrev pub deliveringBy : (ℕ → Vm → Delivery) → (ℕ → ℕ → Vm → Delivery) → Core → Event → Stepped
+deliveringBy d i c Start = innerOf c Start
+deliveringBy d i c (Tick at) =
     pick (eqb (rowOf c (Tick at)) 0)
     (answering (record { config = c .config; clock = tickClock c; running = tickBy d c at .who; queue = tickQueue c; vms = tickBy d c at .vms }) (tickBy d c at .number) noNotice 0)
     (refused c (rowOf c (Tick at)))
-deliveringBy d c (Stop v) = innerOf c (Stop v)
-deliveringBy d c (Shutdown v) = innerOf c (Shutdown v)
-deliveringBy d c (Restart v) = innerOf c (Restart v)
-deliveringBy d c (Extra v) = innerOf c (Extra v)
-deliveringBy d c (Call s n at) =
-    pick (both (eqb (rowOf c (Call s n at)) 0) (leb s 1))
-    (changedBy c (deliveringFrom (c .running) (c .queue) (c .running) (d (handlerAt (c .config) (c .running)) (pick (eqb s 0) (savedAt at (vmAt c (c .running))) (backFrom (savedAt at (vmAt c (c .running))))))))
+deliveringBy d i c (Stop v) = innerOf c (Stop v)
+deliveringBy d i c (Shutdown v) = innerOf c (Shutdown v)
+deliveringBy d i c (Restart v) = innerOf c (Restart v)
+deliveringBy d i c (Extra v) = innerOf c (Extra v)
+deliveringBy d i c (Call s n at) =
+    pick (both (eqb (rowOf c (Call s n at)) 0) (callDelivers s n))
+    (changedBy c (deliveringFrom (c .running) (c .queue) (c .running) (callBy d i s n (handlerAt (c .config) (c .running)) (savedAt at (vmAt c (c .running))))))
     (innerOf c (Call s n at))
-deliveringBy d c (Write o x) = innerOf c (Write o x)
-deliveringBy d c (Fault k x) = innerOf c (Fault k x)
+deliveringBy d i c (Write o x) = innerOf c (Write o x)
+deliveringBy d i c (Fault k x) = innerOf c (Fault k x)
 
 -- M3: empties psIntPending at a delivery
 abbrev pub emptied : Vm → Found → Vm
@@ -198,7 +202,7 @@ unfoldable pub deliverEmpty : ℕ → Vm → Delivery
 deliverEmpty handler v = record { vm = emptied (deliver handler v .vm) (deliver handler v .number); number = deliver handler v .number }
 
 abbrev pub emptiesPending : Behaviour
-emptiesPending = deliveringBy deliverEmpty
+emptiesPending = deliveringBy deliverEmpty (λ n. deliverEmpty)
 
 -- M3: delivers the lowest number
 abbrev pub orElse : Found → Found → Found
@@ -213,7 +217,15 @@ unfoldable pub deliverLow : ℕ → Vm → Delivery
 deliverLow handler v = deliverBy handler v (lowest (λ n. both (bit n (v .status .pending)) (bit n (v .status .enabled))) 32)
 
 abbrev pub lowestFirst : Behaviour
-lowestFirst = deliveringBy deliverLow
+lowestFirst = deliveringBy deliverLow (λ n. deliverLow)
+
+-- service 2 sets its bit and delivers nothing: the bit waits for a tick, a sync or a return
+abbrev pub injectWaits : Behaviour
+injectWaits = deliveringBy deliver (λ n handler v. quiet v)
+
+-- service 2 delivers the number that it was given, though a higher one is pending and enabled
+abbrev pub injectsItsOwn : Behaviour
+injectsItsOwn = deliveringBy deliver (λ n handler v. deliverBy handler v (pick (bit n (v .status .enabled)) (At n) Nothing))
 
 -- M5: delivers 11 when the master asks for the shutdown
 abbrev pub shutsAtOnce : Behaviour

@@ -306,7 +306,7 @@ module _ (c : Core) (p : Shaped c) (s : Sound c) where
       call-case (λ (d : Change). Sound (changedBy c d .core)) (c .running) (c .queue) (full c) hd (c .running) service argument vm
       (λ z. goes-on on h (deliver hd vm .vm) (deliver-standing hd vm) (c .queue) (queued-now c s))
       (λ z. goes-on on h (deliver hd (backFrom vm) .vm) (deliver-standing hd (backFrom vm)) (c .queue) (queued-now c s))
-      (λ z l. goes-on on h (pend argument vm) (pend-standing argument vm) (c .queue) (queued-now c s))
+      (λ z l. goes-on on h (deliver hd (pend argument vm) .vm) (deliver-standing hd (pend argument vm) ∙ pend-standing argument vm) (c .queue) (queued-now c s))
       (λ z l. ends on h (endedAs 4 vm) (omega arith))
       (λ z. ends on h (endedAs 3 vm) (omega arith))
       (λ z l. goes-on on h vm refl (c .queue) (queued-now c s))

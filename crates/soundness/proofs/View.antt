@@ -9,7 +9,7 @@ use Rattle.basis.proofs.Laws.{pick-case}
 use Rattle.basis.specs.Choice.{both, pick}
 use Rattle.config.proofs.Legality.{within-is, within-of}
 use Rattle.config.specs.Sizes.{within}
-use Rattle.core.specs.Changes.{deliveringFrom, endingFrom, failingFrom, noticeOf, queueingFrom, renewedFrom, turnedAwayFrom}
+use Rattle.core.specs.Changes.{deliveringFrom, endingFrom, failingFrom, noticeOf, queueingFrom, turnedAwayFrom}
 use Rattle.core.specs.Events.{calledFrom, done, stepOf}
 use Rattle.core.specs.Refusals.{isExtra, isStart, ofMaster, ofRunning, refusalOf, refused, rowOf, strayFault, strayWrite, subject, wantsReady}
 use Rattle.core.specs.Sound.{sound}
@@ -240,7 +240,7 @@ module _ (P : Change → Type 0) (running : ℕ) (queue : Queue) (noRoom : Bool)
   pub call-case :
       (service ≡ 0 → P (deliveringFrom running queue v (deliver handler vm)))
       → (service ≡ 1 → P (deliveringFrom running queue v (deliver handler (backFrom vm))))
-      → (service ≡ 2 → argument ≤ 31 → P (renewedFrom running queue v (pend argument vm) nobody))
+      → (service ≡ 2 → argument ≤ 31 → P (deliveringFrom running queue v (deliver handler (pend argument vm))))
       → (service ≡ 2 → 31 < argument → P (failingFrom running queue v vm 2 argument))
       → (service ≡ 3 → P (endingFrom running queue v vm 3 (noticeOf 2 v)))
       → (service ≡ 4 → noRoom ≡ true → P (turnedAwayFrom running queue v vm))

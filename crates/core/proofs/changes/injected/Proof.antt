@@ -1,4 +1,4 @@
--- The test of the code is that of the definition.
+-- The test of the code is that of the definition; the bit is set before the delivery.
 use borrow.Author.Needs.{needs}
 use Rattle.basis.proofs.Laws.{ways}
 use Rattle.core.proofs.changes.injected.Statement.{statement}
@@ -10,11 +10,14 @@ cast-pended c = search needs
 pended-requires : tie.Need-pended-requires
 pended-requires c κs = search needs
 
-renewed-requires : tie.Need-renewed-requires
-renewed-requires c κs = search needs
+delivered-requires : tie.Need-delivered-requires
+delivered-requires c κs = search needs
+
+delivering-requires : tie.Need-delivering-requires
+delivering-requires c κs = search needs
 
 returns : tie.Need-returns
-returns c = rw (c .renewed .ensures, c .before .pended .ensures) (search ways)
+returns c = rw (c .delivering .ensures, c .before .delivered .ensures, c .before .before .pended .ensures) (search ways)
 
 failing-requires : tie.Need-failing-requires
 failing-requires c κs = search needs
@@ -25,4 +28,4 @@ returns-2 c = rw (c .failing .ensures) (search ways)
 pub injected-spec : {M : Type 1} → statement M
 injected-spec =
     tie.close
-    (tie.spec cast-pended pended-requires renewed-requires returns failing-requires returns-2)
+    (tie.spec cast-pended pended-requires delivered-requires delivering-requires returns failing-requires returns-2)
