@@ -1,8 +1,20 @@
 -- The test of the code is that of the definition; the bit is set before the delivery.
+use Prim.Native.Nat.{ℕ, _≤_}
 use borrow.Author.Needs.{needs}
+use borrow.Author.Tests.{le-leb}
+use lib.Dec.{leb}
+use mathlib.Core.Path.{_≡_}
 use Rattle.basis.proofs.Laws.{ways}
+use Rattle.basis.specs.Choice.{pick}
 use Rattle.core.proofs.changes.injected.Statement.{statement}
 use Rattle.core.proofs.changes.injected.Tie as tie
+use Rattle.core.specs.Changes.{deliveringFrom, failingFrom}
+use Rattle.core.specs.declared.Change.{Change}
+use Rattle.guest.specs.Deliver.{deliver}
+use Rattle.guest.specs.Record.{pend}
+use Rattle.guest.specs.declared.Delivery.{Delivery}
+use Rattle.guest.specs.declared.Vm.{Vm}
+use Rattle.queue.specs.declared.Queue.{Queue}
 
 cast-pended : tie.Need-cast-pended
 cast-pended c = search needs
@@ -16,8 +28,13 @@ delivered-requires c κs = search needs
 delivering-requires : tie.Need-delivering-requires
 delivering-requires c κs = search needs
 
+inject-low : (running : ℕ) (queue : Queue) (v handler argument : ℕ) (vm pended : Vm) (given : Delivery) (r : Change) → argument ≤ 31
+    → pended ≡ pend argument vm → given ≡ deliver handler pended → r ≡ deliveringFrom running queue v given
+    → r ≡ pick (leb argument 31) (deliveringFrom running queue v (deliver handler (pend argument vm))) (failingFrom running queue v vm 2 argument)
+inject-low running queue v handler argument vm pended given r l e f g = rw (le-leb argument 31 l, g, f, e)
+
 returns : tie.Need-returns
-returns c = rw (c .delivering .ensures, c .before .delivered .ensures, c .before .before .pended .ensures) (search ways)
+returns c = inject-low _ _ _ _ _ _ _ _ _ (c .before .before .before .if1 .taken) (c .before .before .pended .ensures) (c .before .delivered .ensures) (c .delivering .ensures)
 
 failing-requires : tie.Need-failing-requires
 failing-requires c κs = search needs
