@@ -223,7 +223,7 @@ lowestFirst = deliveringBy deliverLow (λ n. deliverLow)
 abbrev pub injectWaits : Behaviour
 injectWaits = deliveringBy deliver (λ n handler v. quiet v)
 
--- service 2 delivers the number that it was given, though a higher one is pending and enabled
+-- service 2 delivers only the number that it was given, though a higher one is pending and enabled
 abbrev pub injectsItsOwn : Behaviour
 injectsItsOwn = deliveringBy deliver (λ n handler v. deliverBy handler v (pick (bit n (v .status .enabled)) (At n) Nothing))
 

@@ -28,6 +28,7 @@ delivered-requires c κs = search needs
 delivering-requires : tie.Need-delivering-requires
 delivering-requires c κs = search needs
 
+-- an argument up to 31: the bit is set, then the delivery sees it
 inject-low : (running : ℕ) (queue : Queue) (v handler argument : ℕ) (vm pended : Vm) (given : Delivery) (r : Change) → argument ≤ 31
     → pended ≡ pend argument vm → given ≡ deliver handler pended → r ≡ deliveringFrom running queue v given
     → r ≡ pick (leb argument 31) (deliveringFrom running queue v (deliver handler (pend argument vm))) (failingFrom running queue v vm 2 argument)
