@@ -1,6 +1,6 @@
 -- What the changes of a VM record keep, and what they are for: facts for the reader and for those who build on the record.
-use Prim.Native.Nat.{ℕ, _%_, _+_, _^_}
-use borrow.Author.Tests.{eqb-true, ne-eqb}
+use Prim.Native.Nat.{ℕ, _%_, _+_, _^_, _≤_}
+use borrow.Author.Tests.{eqb-true, le-leb, ne-eqb}
 use lib.Dec.{eqb, leb}
 use mathlib.Core.Bool.{Bool, false, true}
 use mathlib.Core.Path.{ap, refl, sym, _∙_, _≡_}
@@ -194,6 +194,14 @@ pend-age n v = pend-keeps (λ w. w .age) n v refl
 
 pub pend-ran : (n : ℕ) (v : Vm) → pend n v .ran ≡ v .ran
 pend-ran n v = pend-keeps (λ w. w .ran) n v refl
+
+pub pend-enabled : (n : ℕ) (v : Vm) → pend n v .status .enabled ≡ v .status .enabled
+pend-enabled n v = pend-keeps (λ w. w .status .enabled) n v refl
+
+-- what it is for
+pub pend-pending : (n : ℕ) (v : Vm) → n ≤ 31 → pend n v .status .pending ≡ setBit n (v .status .pending)
+unfolding pend
+pend-pending n v h = rw (le-leb n 31 h)
 
 pub pend-running : (n : ℕ) (v : Vm) → pend n v .status .running ≡ v .status .running
 pend-running n v = pend-keeps (λ w. w .status .running) n v refl

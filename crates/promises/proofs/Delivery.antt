@@ -21,8 +21,8 @@ use Rattle.core.specs.declared.Core.{Core}
 use Rattle.core.specs.declared.Event.the-variants.{Call, Extra, Fault, Restart, Shutdown, Start, Stop, Tick, Write}
 use Rattle.core.specs.declared.Event.{Event}
 use Rattle.core.specs.declared.Stepped.{Stepped}
-use Rattle.guest.proofs.Facts.{deliver-hit, deliver-number, deliver-quiet, pend-address}
-use Rattle.guest.specs.Bits.{bit, clearBit, highest, setBit}
+use Rattle.guest.proofs.Facts.{deliver-hit, deliver-number, deliver-quiet, pend-address, pend-enabled, pend-pending}
+use Rattle.guest.specs.Bits.{bit, clearBit, highest}
 use Rattle.guest.specs.Deliver.{backFrom, deliver, due, enter, shown}
 use Rattle.guest.specs.Record.{endedAs, fresh, pend, savedAt}
 use Rattle.guest.specs.declared.Delivery.{Delivery}
@@ -123,10 +123,6 @@ module _ (g : Config) (d : Given g) (k : ℕ) (c : Core) (p : Reached g k c) whe
     unfolding calledFrom
     inject-is h i = rw (h, le-leb n 31 i)
 
-    injected : n ≤ 31 → (pend n vm .status .pending ≡ setBit n (vmAt c (c .running) .status .pending)) × (pend n vm .status .enabled ≡ vmAt c (c .running) .status .enabled)
-    unfolding pend
-    injected i = rw (le-leb n 31 i) (refl, refl)
-
     -- a Call that delivers to x
     call-gives : (x : Vm) (pending enabled address : ℕ) → x .status .pending ≡ pending → x .status .enabled ≡ enabled → x .address ≡ address
         → called c (c .running) s n vm ≡ deliveringFrom (c .running) (c .queue) (c .running) (deliver (handlerAt (c .config) (c .running)) x)
@@ -137,16 +133,16 @@ module _ (g : Config) (d : Given g) (k : ℕ) (c : Core) (p : Reached g k c) whe
         call-is _ h (Delivered g o)
         (delivered hd x o a b e g (of (deliveringFrom (c .running) (c .queue) (c .running) (deliver hd x))) refl (stored-at (c .running) _ low) (handler-same (c .running)))
 
-    call-silent : callDelivers s n ≡ false → called c (c .running) s n vm .delivered ≡ nobody
-    call-silent h =
-        call-case (λ (x : Change). x .delivered ≡ nobody) (c .running) (c .queue) (full c) (handlerAt (c .config) (c .running)) (c .running) s n vm
-        (λ e. false-true (sym (rw e at h))) (λ e. false-true (sym (rw e at h))) (λ e i. false-true (sym (rw (e, le-leb n 31 i) at h))) (λ e i. refl) (λ e. refl) (λ e i. refl) (λ e i. refl) (λ e. refl)
+    -- a Call that does not deliver: nothing is, and the next address is stored
+    abbrev Passes : Moment → Type 0
+    Passes m = (m .answer .delivered ≡ nobody) × (vmAt (m .after) (c .running) .address ≡ at)
 
-    call-saves : callDelivers s n ≡ false → vmAt (changedBy c (called c (c .running) s n vm) .core) (c .running) .address ≡ at
-    call-saves h =
-        call-case (λ (x : Change). vmAt (changedBy c x .core) (c .running) .address ≡ at) (c .running) (c .queue) (full c) (handlerAt (c .config) (c .running)) (c .running) s n vm
-        (λ e. false-true (sym (rw e at h))) (λ e. false-true (sym (rw e at h))) (λ e i. false-true (sym (rw (e, le-leb n 31 i) at h))) (λ e i. stays (endedAs 4 vm) refl)
-        (λ e. stays (endedAs 3 vm) refl) (λ e i. stays vm refl) (λ e i. stays vm refl) (λ e. stays (endedAs 4 vm) refl)
+    call-passes : callDelivers s n ≡ false → Passes (momentOf k c (Call s n at) (done c (Call s n at)))
+    call-passes h =
+        call-is (called c (c .running) s n vm) refl Passes
+        (call-case (λ (x : Change). Passes (of x)) (c .running) (c .queue) (full c) (handlerAt (c .config) (c .running)) (c .running) s n vm
+        (λ e. false-true (sym (rw e at h))) (λ e. false-true (sym (rw e at h))) (λ e i. false-true (sym (rw (e, le-leb n 31 i) at h)))
+        (λ e i. (refl, stays (endedAs 4 vm) refl)) (λ e. (refl, stays (endedAs 3 vm) refl)) (λ e i. (refl, stays vm refl)) (λ e i. (refl, stays vm refl)) (λ e. (refl, stays (endedAs 4 vm) refl)))
       where
         stays : (w : Vm) → w .address ≡ at → getD (set (c .vms) (c .running) w) (c .running) fresh .address ≡ at
         stays w e = ap (λ (x : Vm). x .address) (stored-at (c .running) w low) ∙ e
@@ -156,14 +152,10 @@ module _ (g : Config) (d : Given g) (k : ℕ) (c : Core) (p : Reached g k c) whe
         record {
           sync = λ h. call-gives vm _ _ _ refl refl refl (sync-is h);
           return = λ h. call-gives (backFrom vm) _ _ _ refl refl refl (return-is h);
-          inject = λ h i. call-gives (pend n vm) _ _ _ (injected i .0) (injected i .1) (pend-address n vm) (inject-is h i);
-          never = λ h. call-is (called c (c .running) s n vm) refl (λ (m : Moment). m .answer .delivered ≡ nobody) (call-silent h);
-          saved = λ h. call-is (called c (c .running) s n vm) refl (λ (m : Moment). vmAt (m .after) (m .before .running) .address ≡ at) (call-saves h);
+          inject = λ h i. call-gives (pend n vm) _ _ _ (pend-pending n vm i) (pend-enabled n vm) (pend-address n vm) (inject-is h i);
+          never = λ h. call-passes h .0;
+          saved = λ h. call-passes h .1;
         }
-
-  eleven : (w : Vm) → pend 11 w .status .pending ≡ setBit 11 (w .status .pending)
-  unfolding pend
-  eleven w = refl
 
   done-delivers : (e : Event) → sound c ≡ true → rowOf c e ≡ 0 → DeliversBy g (momentOf k c e (done c e)) e
   unfolding done
@@ -174,7 +166,7 @@ module _ (g : Config) (d : Given g) (k : ℕ) (c : Core) (p : Reached g k c) whe
       let e = stored-at v (pend 11 (vmAt c v)) (row-shutdown c v r .1) in
       record {
         never = refl;
-        waits = ap (λ (w : Vm). w .status .pending) e ∙ eleven (vmAt c v);
+        waits = ap (λ (w : Vm). w .status .pending) e ∙ pend-pending 11 (vmAt c v) (omega arith);
         address = ap (λ (w : Vm). w .address) e ∙ pend-address 11 (vmAt c v);
       }
   done-delivers (Restart v) s r = refl
