@@ -2,7 +2,7 @@
 use Prim.Native.Nat.{suc, zero, ℕ, _%_, _*_, _+_, _-_, _/_, _<_, _^_, _≤_}
 use borrow.Author.Tests.{eqb-false, eqb-true}
 use lib.Bits.{and-high, and-le-l, and-mod, and-shr, bitAnd, bitOr, or-add-and}
-use lib.Count.{leading-top, leadingZeros}
+use lib.Count.{leading-top}
 use lib.Dec.{eqb}
 use lib.Pow.{pow-add, pow-mono, shl-exact}
 use mathlib.Core.Bool.{Bool, false, true}
@@ -10,6 +10,7 @@ use mathlib.Core.Path.{ap, refl, sym, _∙_, _≡_}
 use native.Mathlib.Decide.{decLt}
 use native.Mathlib.Nat.{div-eq-of-lt, div-eq-of-lt-le, lt-of-le-of-lt, lt-of-lt-of-le, mod-lt, pow-suc, zero-div}
 use native.Mathlib.Omega.{arith}
+use Rattle.basis.proofs.Laws.{false-true}
 use Rattle.basis.specs.Choice.{both, pick}
 use Rattle.guest.specs.Bits.{bit, clearBit, highest, setBit}
 use Rattle.guest.specs.Deliver.{deliver, due, interrupt, quiet}
@@ -77,15 +78,6 @@ module _ (p : ℕ → Bool) where
   highest-none zero h = refl
   highest-none (suc n) h = rw (h n (omega arith)) (highest-none n (λ k l. h k (omega arith)))
 
-  pub highest-at : (n j : ℕ) → j < n → p j ≡ true → ((k : ℕ) → j < k → k < n → p k ≡ false) → highest p n ≡ At j
-  unfolding highest
-  highest-at zero j l e h = absurd (omega arith)
-  highest-at (suc n) j l e h =
-      elim (decLt j n) [
-        | yes i ↦ rw (h n i (omega arith)) (highest-at n j i e (λ k a b. h k a (omega arith)))
-        | no i ↦ (let q : n ≡ j = omega arith in rw (q, e))
-      ]
-
   -- what the answer tells
   pub none-is : (n : ℕ) → highest p n ≡ Nothing → (k : ℕ) → k < n → p k ≡ false
   unfolding highest
@@ -120,7 +112,7 @@ module _ (p : ℕ → Bool) where
                 ],
           )
 
--- ---- the highest bit of a number, by its leading zeros
+-- ---- the bits of a number of known size
 
 pub bit-top : (j m : ℕ) → 2 ^ j ≤ m → m < 2 ^ suc j → bit j m ≡ true
 bit-top j m a b =
@@ -135,25 +127,43 @@ bit-over j k m a b =
 bit-zero : (k : ℕ) → bit k 0 ≡ false
 bit-zero k = rw (zero-div (2 ^ k))
 
-due-bit : (s : Status) (k : ℕ) → both (bit k (s .pending)) (bit k (s .enabled)) ≡ bit k (bitAnd (s .pending) (s .enabled))
-due-bit s k = sym (bit-and k (s .pending) (s .enabled))
+-- set in both fields, as D11 asks
+abbrev pub inBoth : Status → ℕ → Bool
+inBoth s n = both (bit n (s .pending)) (bit n (s .enabled))
 
 pub due-none : (s : Status) → bitAnd (s .pending) (s .enabled) ≡ 0 → Nothing ≡ due s
 unfolding due
-due-none s e = sym (highest-none _ 32 (λ k l. due-bit s k ∙ ap (bit k) e ∙ bit-zero k))
+due-none s e = sym (highest-none _ 32 (λ k l. sym (bit-and k (s .pending) (s .enabled)) ∙ ap (bit k) e ∙ bit-zero k))
 
-pub due-top : (s : Status) (n : ℕ) → s .pending < 2 ^ 32 → (bitAnd (s .pending) (s .enabled) ≡ 0 → ⊥)
-    → n ≡ 31 - leadingZeros 32 (bitAnd (s .pending) (s .enabled)) → At n ≡ due s
-unfolding due
-due-top s n l z f =
+-- ---- the walk down the numbers (D11); r is what the code found out about n, where the walk stands
+
+-- the highest of 0 to n that is set in both
+pub dueTo : Status → ℕ → Found
+dueTo s n = highest (inBoth s) (suc n)
+
+pub walk-starts : (s : Status) → due s ≡ dueTo s 31
+unfolding due dueTo
+walk-starts s = refl
+
+pub walk-hits : (s : Status) (n : ℕ) (r : Bool) → due s ≡ dueTo s n → r ≡ inBoth s n → r ≡ true → At n ≡ due s
+unfolding dueTo highest
+walk-hits s n r e f h = rw (e, ← f, h)
+
+pub walk-goes : (s : Status) (n : ℕ) (r : Bool) → due s ≡ dueTo s n → r ≡ inBoth s n → r ≡ false → 0 < n → due s ≡ dueTo s (n - 1)
+unfolding dueTo highest
+walk-goes s zero r e f h z = absurd (omega arith)
+walk-goes s (suc n) r e f h z = let q : suc n - 1 ≡ n = omega arith in rw (e, ← f, h, q)
+
+-- where the fields share a bit the walk does not pass 0
+pub walk-stops : (s : Status) (n : ℕ) (r : Bool) → s .pending < 2 ^ 32 → (bitAnd (s .pending) (s .enabled) ≡ 0 → ⊥)
+    → due s ≡ dueTo s n → r ≡ inBoth s n → r ≡ false → 0 < n
+unfolding due dueTo highest
+walk-stops s zero r l z e f h =
     let m = bitAnd (s .pending) (s .enabled) in
     let t = leading-top 32 m (omega arith) (lt-of-le-of-lt (and-le-l (s .pending) (s .enabled)) l) in
-    let j : n ≡ t .0 = omega (arith, t .1, f) in
-    ap At j ∙ sym (highest-at _ 32 (t .0) (omega (arith, t .1)) (due-bit s (t .0) ∙ bit-top (t .0) m (t .2) (t .3))
-    (λ k a b. due-bit s k ∙ bit-over (t .0) k m (t .3) a))
-
-pub zeros-few : (m : ℕ) → 0 < m → m < 2 ^ 32 → leadingZeros 32 m ≤ 31
-zeros-few m p l = let t = leading-top 32 m p l in omega (arith, t .1)
+    let none : due s ≡ Nothing = rw (e, ← f, h) in
+    false-true (sym (none-is (inBoth s) 32 none (t .0) (omega (arith, t .1))) ∙ sym (bit-and (t .0) (s .pending) (s .enabled)) ∙ bit-top (t .0) m (t .2) (t .3))
+walk-stops s (suc n) r l z e f h = omega arith
 
 pub power-is : (n : ℕ) → n < 32 → 1 * 2 ^ n % 4294967296 ≡ 2 ^ n
 power-is n l = shl-exact {a = 1} 1 n 32 (omega arith) (omega arith) ∙ omega arith

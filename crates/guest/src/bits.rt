@@ -1,29 +1,42 @@
 // Pseudo-interrupts as bits of a number: to find the one that is due, to add one, to take one out.
 use crate::Found;
 use crate::Status;
-ghost use Prim.Native.Nat.{_-_, _<_, _^_};
-ghost use lib.Count.{leadingZeros};
+use crate::both;
+ghost use Prim.Native.Nat.{_<_, _^_};
 ghost use mathlib.Core.Path.{_≡_};
-ghost use Rattle.guest.specs.Bits.{clearBit, setBit};
+ghost use Rattle.basis.specs.Choice.{both};
+ghost use Rattle.guest.specs.Bits.{bit, clearBit, setBit};
 ghost use Rattle.guest.specs.Deliver.{due};
 
-// D11. The test for zero stands first: mostly nothing is due.
+// D11: from 31 down to 0, the first that is set in both. That there is one is tested first: mostly there is none.
 pub fn due(status: Status) -> Found
     ensures { λ r. ⌜ r ≡ due status ⌝ }
 {
-    let m = status.pending & status.enabled;
-    if m == 0 {
+    if status.pending & status.enabled == 0 {
         return Found::Nothing;
     }
-    Found::At(top(m))
+    let mut n: u8 = 31;
+    loop {
+        if in_both(status, n) {
+            break Found::At(n);
+        }
+        n = n - 1;
+    }
 }
 
-// The number of the highest bit.
-fn top(m: u32) -> u8
-    requires { ⌜ 0 < m ⌝ }
-    ensures { λ r. ⌜ r ≡ 31 - leadingZeros 32 m ⌝ }
+// Whether n is pending and enabled.
+fn in_both(status: Status, n: u8) -> bool
+    requires { ⌜ n < 32 ⌝ }
+    ensures { λ r. ⌜ r ≡ both (bit n (status .pending)) (bit n (status .enabled)) ⌝ }
 {
-    31 - u32::leading_zeros(m) as u8
+    both(has_bit(status.pending, n), has_bit(status.enabled, n))
+}
+
+fn has_bit(x: u32, n: u8) -> bool
+    requires { ⌜ n < 32 ⌝ }
+    ensures { λ r. ⌜ r ≡ bit n x ⌝ }
+{
+    (x >> n) % 2 == 1
 }
 
 // 2^n.
