@@ -70,6 +70,10 @@ sub-clears n x p f = rw f (go (bit n x) refl)
     go true e = rw (and-in n x e)
     go false e = rw (and-out n x e) (omega arith)
 
+-- the code's way to 2 ^ n
+pub power-is : (n : ℕ) → n < 32 → 1 * 2 ^ n % 4294967296 ≡ 2 ^ n
+power-is n l = shl-exact {a = 1} 1 n 32 (omega arith) (omega arith) ∙ omega arith
+
 -- ---- the highest
 
 module _ (p : ℕ → Bool) where
@@ -127,15 +131,29 @@ bit-over j k m a b =
 bit-zero : (k : ℕ) → bit k 0 ≡ false
 bit-zero k = rw (zero-div (2 ^ k))
 
+-- ---- the reader's theorems about what is due
+
 -- set in both fields, as D11 asks
 abbrev pub inBoth : Status → ℕ → Bool
 inBoth s n = both (bit n (s .pending)) (bit n (s .enabled))
 
+-- the number is below 32, pending and enabled, and no higher one is
+pub due-is : (s : Status) (n : ℕ) → due s ≡ At n → (n < 32) × (inBoth s n ≡ true) × ((k : ℕ) → n < k → k < 32 → inBoth s k ≡ false)
+unfolding due
+due-is s n e = at-is _ 32 n e
+
+pub due-nothing : (s : Status) → due s ≡ Nothing → (k : ℕ) → k < 32 → inBoth s k ≡ false
+unfolding due
+due-nothing s e = none-is _ 32 e
+
+pub due-few : (s : Status) (n : ℕ) → At n ≡ due s → n < 32
+due-few s n e = due-is s n (sym e) .0
+
+-- ---- the search (D11): the test for none, then the walk; r is what the code found out about n, where the walk stands
+
 pub due-none : (s : Status) → bitAnd (s .pending) (s .enabled) ≡ 0 → Nothing ≡ due s
 unfolding due
 due-none s e = sym (highest-none _ 32 (λ k l. sym (bit-and k (s .pending) (s .enabled)) ∙ ap (bit k) e ∙ bit-zero k))
-
--- ---- the walk down the numbers (D11); r is what the code found out about n, where the walk stands
 
 -- the highest of 0 to n that is set in both
 pub dueTo : Status → ℕ → Found
@@ -157,16 +175,13 @@ walk-goes s (suc n) r e f h z = let q : suc n - 1 ≡ n = omega arith in rw (e, 
 -- where the fields share a bit the walk does not pass 0
 pub walk-stops : (s : Status) (n : ℕ) (r : Bool) → s .pending < 2 ^ 32 → (bitAnd (s .pending) (s .enabled) ≡ 0 → ⊥)
     → due s ≡ dueTo s n → r ≡ inBoth s n → r ≡ false → 0 < n
-unfolding due dueTo highest
+unfolding dueTo highest
 walk-stops s zero r l z e f h =
     let m = bitAnd (s .pending) (s .enabled) in
     let t = leading-top 32 m (omega arith) (lt-of-le-of-lt (and-le-l (s .pending) (s .enabled)) l) in
     let none : due s ≡ Nothing = rw (e, ← f, h) in
-    false-true (sym (none-is (inBoth s) 32 none (t .0) (omega (arith, t .1))) ∙ sym (bit-and (t .0) (s .pending) (s .enabled)) ∙ bit-top (t .0) m (t .2) (t .3))
+    false-true (sym (due-nothing s none (t .0) (omega (arith, t .1))) ∙ sym (bit-and (t .0) (s .pending) (s .enabled)) ∙ bit-top (t .0) m (t .2) (t .3))
 walk-stops s (suc n) r l z e f h = omega arith
-
-pub power-is : (n : ℕ) → n < 32 → 1 * 2 ^ n % 4294967296 ≡ 2 ^ n
-power-is n l = shl-exact {a = 1} 1 n 32 (omega arith) (omega arith) ∙ omega arith
 
 -- ---- a delivery by what the code found
 
@@ -178,19 +193,3 @@ pub deliver-at : (h n : ℕ) (v w : Vm) (f : Found) → f ≡ due (v .status) �
     → _≡_ {A = Delivery} (record { vm = w; number = At n }) (deliver h v)
 unfolding deliver
 deliver-at h n v w f e g i = rw (← e, g, i)
-
--- ---- the reader's theorems about what is due
-
--- the number is below 32, pending and enabled, and no higher one is
-pub due-is : (s : Status) (n : ℕ) → due s ≡ At n
-    → (n < 32) × (both (bit n (s .pending)) (bit n (s .enabled)) ≡ true)
-    × ((k : ℕ) → n < k → k < 32 → both (bit k (s .pending)) (bit k (s .enabled)) ≡ false)
-unfolding due
-due-is s n e = at-is _ 32 n e
-
-pub due-nothing : (s : Status) → due s ≡ Nothing → (k : ℕ) → k < 32 → both (bit k (s .pending)) (bit k (s .enabled)) ≡ false
-unfolding due
-due-nothing s e = none-is _ 32 e
-
-pub due-few : (s : Status) (n : ℕ) → At n ≡ due s → n < 32
-due-few s n e = due-is s n (sym e) .0
