@@ -8,7 +8,7 @@ ghost use Rattle.basis.specs.Choice.{both};
 ghost use Rattle.guest.specs.Bits.{bit, clearBit, setBit};
 ghost use Rattle.guest.specs.Deliver.{due};
 
-// D11: from 31 down to 0, the first that is set in both. That there is one is tested first: mostly there is none.
+// D11: from 31 down to 0, the first that is set in both. Mostly there is none: that is tested before, so a walk finds one by 0.
 pub fn due(status: Status) -> Found
     ensures { λ r. ⌜ r ≡ due status ⌝ }
 {
