@@ -129,7 +129,8 @@ typedef struct core_answer {
     uint32_t address;  /* its run address, or 0 */
     uint8_t delivered; /* the pseudo-interrupt that this event delivered, or CORE_NONE */
     core_notice notice;
-    uint8_t result; /* 1: service 4 found the queue full (A6) */
+    uint8_t result;  /* 1: service 4 found the queue full (A6) */
+    uint8_t removed; /* how many entries of its VM the event took out of the queue (A8) */
 } core_answer;
 
 /* The state after an event, with the answer. */

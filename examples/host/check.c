@@ -58,7 +58,8 @@ static core_answer send(core_state *core, uint8_t kind, uint8_t byte, uint32_t w
     core_answer a = core_live(core, event), b = after.answer;
     check("both forms answer the same", a.refusal == b.refusal && a.running == b.running && a.address == b.address &&
         a.delivered == b.delivered && a.notice.kind == b.notice.kind && a.notice.vm == b.notice.vm &&
-        a.notice.code == b.notice.code && a.notice.data == b.notice.data && a.result == b.result);
+        a.notice.code == b.notice.code && a.notice.data == b.notice.data && a.result == b.result &&
+        a.removed == b.removed);
     check("both forms leave the same VM", core->running == after.core.running);
     return a;
 }
@@ -117,6 +118,9 @@ static void full_run(void)
         same &= core.vms[i].standing == CORE_READY && core.vms[i].address == 0x03020100u + (unsigned)i &&
             core.vms[i].age == 1 && core.vms[i].ran == (i == 0);
     check("each VM record", same && core.running == 0 && core.vms[0].status.left == 356);
+    core_answer a = send(&core, CORE_STOP, 3, 0, 0);
+    check("the number removed", a.removed == 2 && core.queue.len == 14 && a.running == 0);
+    check("nothing removed by a refusal", send(&core, CORE_STOP, 3, 0, 0).removed == 0);
     begun = core_fresh(b, 331);
     check("the fault of a cut image", begun.fault == 20 && begun.offset == 331);
     core = begun.core;

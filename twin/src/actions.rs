@@ -16,16 +16,28 @@ impl Core {
     /// Takes a VM out of ready, its queue entries with it, and the core from it if it was running.
     pub(crate) fn end_vm(&mut self, vm: u8, standing: Standing, notice: Notice) -> Outcome {
         self.vm_mut(vm).standing = standing;
-        if self.flaw != Flaw::StoppedStaysQueued {
-            self.state.queue.remove(vm);
-        }
+        let removed = match self.flaw {
+            Flaw::StoppedStaysQueued => 0,
+            _ => self.remove_entries(vm),
+        };
         if self.state.running == Some(vm) {
             self.state.running = None;
             if self.flaw == Flaw::StopMovesTable {
                 self.state.left = 1;
             }
         }
-        Outcome { notice, ..Outcome::default() }
+        Outcome { notice, removed, ..Outcome::default() }
+    }
+
+    /// Takes all entries of a VM out of the queue and answers how many they were (A8).
+    fn remove_entries(&mut self, vm: u8) -> u8 {
+        let all = self.state.queue.count;
+        let removed = self.state.queue.remove(vm);
+        match self.flaw {
+            Flaw::RemovedIsWholeQueue => all,
+            Flaw::RemovedIsWhatIsLeft => self.state.queue.count_of(vm),
+            _ => removed,
+        }
     }
 
     pub(crate) fn ask_shutdown(&mut self, vm: u8) -> Outcome {
@@ -39,13 +51,15 @@ impl Core {
     /// As Start does for this VM. A running VM stays the running one.
     pub(crate) fn restart(&mut self, vm: u8) -> Outcome {
         *self.vm_mut(vm) = Vm::ready_at(self.config.vms[usize::from(vm)].entry);
-        if self.flaw != Flaw::RestartKeepsQueue {
-            self.state.queue.remove(vm);
-        }
+        let removed = match self.flaw {
+            Flaw::RestartKeepsQueue => 0,
+            _ => self.remove_entries(vm),
+        };
         if self.flaw == Flaw::RestartStopsRunning && self.state.running == Some(vm) {
             self.state.running = None;
         }
-        Outcome::default()
+        let told = if self.flaw == Flaw::RestartTellsNone { 0 } else { removed };
+        Outcome { removed: told, ..Outcome::default() }
     }
 
     pub(crate) fn write(&mut self, offset: u8, value: u32) -> Outcome {
@@ -86,8 +100,15 @@ impl Core {
                 self.state.queue.push(vm);
                 Outcome::default()
             }
-            _ => self.fault(CODE_UNKNOWN_SERVICE, u32::from(service)),
+            _ => self.unknown_service(service),
         }
+    }
+
+    /// A service that there is not is an error of the VM (D30).
+    fn unknown_service(&mut self, service: u8) -> Outcome {
+        let outcome = self.fault(CODE_UNKNOWN_SERVICE, u32::from(service));
+        let told = if self.flaw == Flaw::UnknownServiceTellsNone { 0 } else { outcome.removed };
+        Outcome { removed: told, ..outcome }
     }
 
     fn return_from_handler(&mut self, vm: u8) -> Outcome {

@@ -55,8 +55,8 @@ impl Core {
     fn answer(&self, refusal: u8, outcome: Outcome) -> Answer {
         let running = if refusal == 1 { None } else { self.state.running };
         let address = running.map_or(0, |vm| self.vm(vm).address);
-        let Outcome { delivered, notice, result } = outcome;
-        Answer { refusal, running, address, delivered, notice, result }
+        let Outcome { delivered, notice, result, removed } = outcome;
+        Answer { refusal, running, address, delivered, notice, result, removed }
     }
 
     pub(crate) fn vm(&self, vm: u8) -> &Vm {

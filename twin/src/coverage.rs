@@ -29,6 +29,13 @@ const REFUSALS_BY_KIND: [&[u8]; 9] = [
 /// Where a number can be delivered: at a tick, or at the services 0, 1 and 2 (D13).
 const DELIVERY_NAMES: [&str; 4] = ["tick", "sync", "return", "inject"];
 
+/// The events that remove all entries of their VM from the queue (A8).
+const REMOVAL_NAMES: [&str; 6] =
+    ["Stop", "Restart", "Fault", "service 3", "service 2 over 31", "unknown service"];
+
+/// How many they remove; the last goes beside the others.
+const REMOVED_NAMES: [&str; 4] = ["no entry", "1 entry", "2 entries or more", "entries, others stay"];
+
 #[derive(Clone, Debug)]
 pub struct Coverage {
     pub events: u64,
@@ -42,6 +49,7 @@ pub struct Coverage {
     error_codes: [u64; 6],
     results: [u64; 2],
     delivered: [[u64; 32]; DELIVERY_NAMES.len()],
+    removed: [[u64; REMOVED_NAMES.len()]; REMOVAL_NAMES.len()],
     fields_written: [u64; 10],
     marks: [u64; Mark::COUNT],
 }
@@ -60,6 +68,7 @@ impl Default for Coverage {
             error_codes: [0; 6],
             results: [0; 2],
             delivered: [[0; 32]; DELIVERY_NAMES.len()],
+            removed: [[0; REMOVED_NAMES.len()]; REMOVAL_NAMES.len()],
             fields_written: [0; 10],
             marks: [0; Mark::COUNT],
         }
@@ -91,6 +100,7 @@ impl Coverage {
             let before = core.clone();
             let answer = core.apply(event);
             self.observe_event(event, &answer);
+            self.observe_removal(event, &answer, core.state.queue.count);
             event_marks(&before, event, &answer, &core, &mut |mark| self.marks[mark as usize] += 1);
             at = next;
         }
@@ -123,6 +133,15 @@ impl Coverage {
         }
     }
 
+    /// How many entries an event removed, and whether there are others that stay.
+    fn observe_removal(&mut self, event: Event, answer: &Answer, staying: u8) {
+        let (Some(kind), 0) = (removal_index(event), answer.refusal) else {
+            return;
+        };
+        self.removed[kind][usize::from(answer.removed.min(2))] += 1;
+        self.removed[kind][3] += u64::from(answer.removed > 0 && staying > 0);
+    }
+
     /// Every point that has to be reached, by name, and how often it was.
     pub fn points(&self) -> Vec<(String, u64)> {
         let mut points = self.run_points();
@@ -135,6 +154,11 @@ impl Coverage {
         for (moment, name) in DELIVERY_NAMES.iter().enumerate() {
             for (number, count) in self.delivered[moment].iter().enumerate() {
                 points.push((format!("delivered {number} at {name}"), *count));
+            }
+        }
+        for (kind, name) in REMOVAL_NAMES.iter().enumerate() {
+            for (count, removed) in self.removed[kind].iter().zip(REMOVED_NAMES) {
+                points.push((format!("{name} removes {removed}"), *count));
             }
         }
         for mark in Mark::ALL {
@@ -180,6 +204,19 @@ fn moment_index(event: Event) -> usize {
     match event {
         Event::Call { service, .. } => 1 + usize::from(service),
         _ => 0,
+    }
+}
+
+/// The place of an event among the names of those that remove entries.
+fn removal_index(event: Event) -> Option<usize> {
+    match event {
+        Event::Stop { .. } => Some(0),
+        Event::Restart { .. } => Some(1),
+        Event::Fault { .. } => Some(2),
+        Event::Call { service: 3, .. } => Some(3),
+        Event::Call { service: 2, argument: 32.., .. } => Some(4),
+        Event::Call { service: 5.., .. } => Some(5),
+        _ => None,
     }
 }
 

@@ -69,16 +69,17 @@ marks! {
     IdleNamed = "run: named slot, VM not ready",
     IdleSpare = "run: spare slot, queue empty",
     SpareServed = "run: spare slot serves an entry",
+    SpareServesOneOfSome = "run: spare slot serves a VM that has more entries",
     SpareDelivers = "run: delivery in a spare tick",
     QueueFull = "run: queue filled to 16",
     TwiceQueued = "run: same VM twice in the queue",
     ExtraFullNotReady = "run: Extra for a VM that is not ready, queue full",
     CallFullSixteen = "run: service 4 with 16 entries",
     CallFullNone = "run: service 4 with queue size 0",
+    CallFullOwn = "run: service 4 with a full queue, entries of its own in it",
     StopRunning = "run: Stop of the running VM",
     StopWaiting = "run: Stop of a VM that does not run",
-    StopUnqueues = "run: Stop removes entries, others stay",
-    RestartUnqueues = "run: Restart removes entries, others stay",
+    SixteenRemoved = "run: 16 entries removed at once",
     RestartRunning = "run: Restart of the running VM",
     RestartWaiting = "run: Restart of a ready VM that does not run",
     RestartStopped = "run: Restart of a stopped VM",
@@ -86,6 +87,7 @@ marks! {
     RestartInError = "run: Restart of a VM in error",
     NobodyReady = "run: tick with no VM ready",
     ShutdownRunning = "run: Shutdown of the running VM, 11 enabled",
+    ShutdownQueued = "run: Shutdown of a VM with entries",
     ShutdownDelivered = "run: 11 delivered",
     PendingStays = "run: delivery with other bits still pending",
     Argument31 = "run: service 2 with 31",
@@ -103,6 +105,7 @@ marks! {
     CodeNoVm = "run: Fault of a bad code while no VM runs",
     CodeTwo = "run: Fault of code 2",
     CodeSix = "run: Fault of code 6",
+    CodeQueued = "run: Fault of a bad code by a VM with entries",
     ClockBent = "run: tick after a Write to ticksWhileRunning",
     VmSeven = "run: VM 7 runs",
     VmEight = "run: master event for VM 8",
@@ -184,16 +187,16 @@ pub fn event_marks(before: &Core, event: Event, answer: &Answer, after: &Core, h
     match (event, answer.refusal) {
         (Event::Tick { .. }, 0) => tick_marks(before, answer, after, hit),
         (Event::Call { service: 2, argument, .. }, 0) => inject_marks(before, argument, answer, hit),
-        (Event::Call { service, .. }, 0) => call_marks(before, service, hit),
+        (Event::Call { service, .. }, 0) => call_marks(before, service, answer, hit),
         (Event::Stop { vm }, 0) => {
             let running = before.state.running == Some(vm);
             hit(if running { Mark::StopRunning } else { Mark::StopWaiting });
-            test(hit, Mark::StopUnqueues, some_leave(before, after));
         }
-        (Event::Restart { vm }, 0) => restart_marks(before, vm, after, hit),
+        (Event::Restart { vm }, 0) => restart_marks(before, vm, hit),
         (Event::Shutdown { vm }, 0) => {
             let enabled = before.vm(vm).fields[ENABLED] >> 11 & 1 == 1;
             test(hit, Mark::ShutdownRunning, before.state.running == Some(vm) && enabled);
+            test(hit, Mark::ShutdownQueued, has_entries(before, Some(vm)));
         }
         (_, 0) => {}
         _ => refusal_marks(before, event, answer.refusal, hit),
@@ -203,6 +206,7 @@ pub fn event_marks(before: &Core, event: Event, answer: &Answer, after: &Core, h
         let vm = answer.running.map(|vm| after.vm(vm));
         test(hit, Mark::PendingStays, vm.is_some_and(|vm| vm.fields[PENDING] != 0));
     }
+    test(hit, Mark::SixteenRemoved, usize::from(answer.removed) == MAX_QUEUE);
     let entries = after.state.queue.entries();
     test(hit, Mark::QueueFull, entries.len() == MAX_QUEUE);
     test(hit, Mark::TwiceQueued, entries.len() > 1 && entries[1..].contains(&entries[0]));
@@ -220,6 +224,7 @@ fn tick_marks(before: &Core, answer: &Answer, after: &Core, hit: &mut impl FnMut
     test(hit, Mark::IdleNamed, idle && !spare);
     test(hit, Mark::IdleSpare, idle && spare);
     test(hit, Mark::SpareServed, !idle && spare);
+    test(hit, Mark::SpareServesOneOfSome, spare && has_entries(after, answer.running));
     test(hit, Mark::SpareDelivers, spare && answer.delivered.is_some());
     test(hit, Mark::NobodyReady, after.state.vms.iter().all(|vm| vm.standing != Standing::Ready));
     test(hit, Mark::ManyTicks, after.state.vms[0].age > 10_000);
@@ -230,11 +235,12 @@ fn tick_marks(before: &Core, answer: &Answer, after: &Core, hit: &mut impl FnMut
     }
 }
 
-fn call_marks(before: &Core, service: u8, hit: &mut impl FnMut(Mark)) {
+fn call_marks(before: &Core, service: u8, answer: &Answer, hit: &mut impl FnMut(Mark)) {
     test(hit, Mark::ServiceFive, service == 5);
     test(hit, Mark::ServiceLast, service == 255);
     test(hit, Mark::CallFullSixteen, service == 4 && usize::from(before.state.queue.count) == MAX_QUEUE);
     test(hit, Mark::CallFullNone, service == 4 && before.config.queue_size == 0);
+    test(hit, Mark::CallFullOwn, answer.result == 1 && has_entries(before, before.state.running));
 }
 
 fn inject_marks(before: &Core, argument: u32, answer: &Answer, hit: &mut impl FnMut(Mark)) {
@@ -254,7 +260,7 @@ fn inject_marks(before: &Core, argument: u32, answer: &Answer, hit: &mut impl Fn
     test(hit, Mark::InjectNotEnabled, answer.delivered.is_none() && !enabled);
 }
 
-fn restart_marks(before: &Core, vm: u8, after: &Core, hit: &mut impl FnMut(Mark)) {
+fn restart_marks(before: &Core, vm: u8, hit: &mut impl FnMut(Mark)) {
     let running = before.state.running == Some(vm);
     match before.vm(vm).standing {
         Standing::Ready => hit(if running { Mark::RestartRunning } else { Mark::RestartWaiting }),
@@ -263,12 +269,11 @@ fn restart_marks(before: &Core, vm: u8, after: &Core, hit: &mut impl FnMut(Mark)
         Standing::InError => hit(Mark::RestartInError),
         Standing::None => {}
     }
-    test(hit, Mark::RestartUnqueues, some_leave(before, after));
 }
 
-/// Entries went and others are still there.
-fn some_leave(before: &Core, after: &Core) -> bool {
-    after.state.queue.count > 0 && after.state.queue.count < before.state.queue.count
+/// Has this VM, if it is one, entries in the queue?
+fn has_entries(core: &Core, vm: Option<u8>) -> bool {
+    vm.is_some_and(|vm| core.state.queue.count_of(vm) > 0)
 }
 
 fn refusal_marks(before: &Core, event: Event, refusal: u8, hit: &mut impl FnMut(Mark)) {
@@ -281,6 +286,7 @@ fn refusal_marks(before: &Core, event: Event, refusal: u8, hit: &mut impl FnMut(
         Event::Fault { code, .. } => {
             test(hit, Mark::CodeTwo, refusal == 9 && code == 2);
             test(hit, Mark::CodeSix, refusal == 9 && code == 6);
+            test(hit, Mark::CodeQueued, refusal == 9 && has_entries(before, before.state.running));
             test(hit, Mark::CodeNoVm, refusal == 5 && !(3..=5).contains(&code));
         }
         Event::Stop { vm } | Event::Shutdown { vm } | Event::Restart { vm } | Event::Extra { vm } => {

@@ -1,6 +1,7 @@
 //! The fixed first cases of every comparison: they reach each listed point by themselves.
 
 use crate::config::{Config, Slot, VmPlace, SPARE};
+use crate::edge_removals::{removals, removals_of_none};
 use crate::event::Event;
 use crate::flaw::Flaw;
 use crate::frames::{Case, MAX_PART};
@@ -26,6 +27,8 @@ pub fn edge_cases(random: &mut Random) -> Vec<Case> {
         scripted(&small(2, 0), &queue_edges(2)),
         scripted(&small(8, 16), &queue_edges(8)),
         scripted(&small(3, 4), &standings()),
+        scripted(&small(2, 16), &removals()),
+        scripted(&small(2, 4), &removals_of_none()),
         scripted(&small(2, 2), &[]),
         Case { image: Vec::new(), log: log_of(&[Event::Start]) },
         Case::default(),
@@ -89,11 +92,11 @@ fn lone(queue_size: u8) -> Config {
     config
 }
 
-fn call(service: u8, argument: u32) -> Event {
+pub fn call(service: u8, argument: u32) -> Event {
     Event::Call { service, argument, next: 0x2000 + 4 * (argument & 0xff) + 0x400 * u32::from(service) }
 }
 
-fn write(offset: u8, value: u32) -> Event {
+pub fn write(offset: u8, value: u32) -> Event {
     Event::Write { offset, value }
 }
 

@@ -29,6 +29,7 @@ pub struct Outcome {
     pub delivered: Option<u8>,
     pub notice: Notice,
     pub result: u8,
+    pub removed: u8,
 }
 
 /// The whole answer of one event. The address of no VM is 0.
@@ -40,4 +41,6 @@ pub struct Answer {
     pub delivered: Option<u8>,
     pub notice: Notice,
     pub result: u8,
+    /// How many entries the event removed from the queue (A8).
+    pub removed: u8,
 }

@@ -27,6 +27,11 @@ pub enum Flaw {
     RestartStopsRunning,
     BodyBeforeKind,
     SlotNameBeforeCount,
+    RemovedIsWholeQueue,
+    RemovedIsWhatIsLeft,
+    RestartTellsNone,
+    ServedIsRemoved,
+    UnknownServiceTellsNone,
     CarriesState,
     CarriesPlace,
     SkipsMissingLog,
@@ -59,7 +64,7 @@ impl Flaw {
     }
 
     /// Every wrong twin of a run.
-    pub const WRONG_RUNS: [(Flaw, &'static str); 23] = [
+    pub const WRONG_RUNS: [(Flaw, &'static str); 28] = [
         (Flaw::GuestClock, "raises the guest's own copy of ticksWhileRunning"),
         (Flaw::SpareChargedToSlice, "charges a spare tick to the VM's next slice"),
         (Flaw::StopMovesTable, "moves the table on when the running VM is stopped"),
@@ -83,6 +88,11 @@ impl Flaw {
         (Flaw::RestartStopsRunning, "takes the core from a running VM at its Restart"),
         (Flaw::BodyBeforeKind, "reads the body of an image record before it judges the kind"),
         (Flaw::SlotNameBeforeCount, "tests the name of a 65th slot before the count"),
+        (Flaw::RemovedIsWholeQueue, "answers all the queue's entries as removed, not the VM's alone"),
+        (Flaw::RemovedIsWhatIsLeft, "counts the VM's entries after their removal"),
+        (Flaw::RestartTellsNone, "answers 0 removed at a Restart"),
+        (Flaw::ServedIsRemoved, "answers the entry that a spare tick serves as removed"),
+        (Flaw::UnknownServiceTellsNone, "answers 0 removed at a call for a service that there is not"),
     ];
 
     /// Every wrong twin of a report.

@@ -14,6 +14,7 @@ pub mod coverage_marks;
 pub mod difference;
 pub mod digits;
 pub mod edge_cases;
+pub mod edge_removals;
 pub mod edge_reports;
 pub mod event;
 pub mod flaw;

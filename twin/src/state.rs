@@ -73,15 +73,22 @@ impl Queue {
         Some(vm)
     }
 
-    /// Removes every entry of a VM; the rest keep their order.
-    pub fn remove(&mut self, vm: u8) {
+    /// Removes every entry of a VM and answers how many they were; the rest keep their order.
+    pub fn remove(&mut self, vm: u8) -> u8 {
         let mut rest = Queue::default();
         for &entry in self.entries() {
             if entry != vm {
                 rest.push(entry);
             }
         }
+        let removed = self.count - rest.count;
         *self = rest;
+        removed
+    }
+
+    /// How many entries a VM has.
+    pub fn count_of(&self, vm: u8) -> u8 {
+        self.entries().iter().map(|entry| u8::from(*entry == vm)).sum()
     }
 }
 

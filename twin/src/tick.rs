@@ -22,13 +22,17 @@ impl Core {
         }
         self.age_all();
         self.step_table();
+        let queued = self.state.queue.count;
         self.state.running = self.choose();
+        let served = queued - self.state.queue.count;
         let Some(vm) = self.state.running else {
             return Outcome::default();
         };
         self.show_clocks(vm);
         self.generate(vm);
-        Outcome { delivered: self.deliver(vm), ..Outcome::default() }
+        // The entry that a spare tick takes is served, not removed (A8).
+        let removed = if self.flaw == Flaw::ServedIsRemoved { served } else { 0 };
+        Outcome { delivered: self.deliver(vm), removed, ..Outcome::default() }
     }
 
     pub(crate) fn age_all(&mut self) {

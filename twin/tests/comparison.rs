@@ -116,8 +116,8 @@ fn a_wrong_many_is_reported_and_its_files_are_kept() {
     assert!(!outcome.well);
     assert!(outcome.text.starts_with("difference: seed 4, case 0, program many\n"), "{}", outcome.text);
     assert!(outcome.text.contains("first differing event: 34: call service 0"), "{}", outcome.text);
-    assert!(outcome.text.contains("expected answer: 34 0 0 00001004 1 0 0"), "{}", outcome.text);
-    assert!(outcome.text.contains("got answer:      34 0 0 00001004 0 0 0"), "{}", outcome.text);
+    assert!(outcome.text.contains("expected answer: 34 0 0 00001004 1 0 0 0\n"), "{}", outcome.text);
+    assert!(outcome.text.contains("got answer:      34 0 0 00001004 0 0 0 0\n"), "{}", outcome.text);
     let kept = keep.join("seed-4-case-0-program-many");
     let again = Command::new(TWIN).arg("run").arg(&kept).output().expect("the twin starts");
     let expected = std::fs::read_to_string(kept.join("expected")).expect("kept");
@@ -156,7 +156,7 @@ fn too_few_cases_are_said_to_be_too_few() {
 fn every_wrong_twin_is_told_apart() {
     let (text, well) = selftest(1, 400);
     assert!(well, "{text}");
-    assert_eq!(text.matches("told apart at case").count(), 23);
+    assert_eq!(text.matches("told apart at case").count(), 28);
     assert_eq!(text.matches("told apart at folder").count(), 19);
     let (text, well) = selftest(1, 1);
     assert!(!well && text.contains("NEVER told apart in 1 cases"));
@@ -190,6 +190,19 @@ fn the_random_cases_alone_reach_every_point_of_service_2() {
 }
 
 #[test]
+fn the_random_cases_alone_reach_every_point_of_removals() {
+    let maker = CaseMaker::new(1);
+    let mut coverage = Coverage::default();
+    for number in maker.edge_count()..maker.edge_count() + 1_000 {
+        coverage.observe(&maker.case(number));
+    }
+    let mut points = coverage.points();
+    points.retain(|(name, _)| name.contains(" removes ") || name.contains(" removed "));
+    assert_eq!(points.len(), 6 * 4 + 1, "{points:?}");
+    assert_eq!(never_reached(points), Vec::<String>::new());
+}
+
+#[test]
 fn the_fixed_folders_alone_reach_every_point_of_the_reports() {
     for seed in 0..3 {
         let mut coverage = ReportCoverage::default();
@@ -215,8 +228,9 @@ fn cases_depend_on_the_seed_and_the_number_alone() {
 
 #[test]
 fn the_first_parting_is_found() {
-    let parting = first_parting(b"1 0 - - - 0 0\nnotice 0 0 0\n2 0 - x\n", b"1 0 - - - 0 0\nnotice 0 0 1\n");
-    assert_eq!((parting.event, parting.expected_answer.as_str()), (1, "1 0 - - - 0 0"));
+    let parting =
+        first_parting(b"1 0 - - - 0 0 0\nnotice 0 0 0\n2 0 - x\n", b"1 0 - - - 0 0 0\nnotice 0 0 1\n");
+    assert_eq!((parting.event, parting.expected_answer.as_str()), (1, "1 0 - - - 0 0 0"));
     assert_eq!((parting.expected_line.as_str(), parting.got_line.as_str()), ("notice 0 0 0", "notice 0 0 1"));
     let parting = first_parting(b"config 20 0\n", b"");
     assert_eq!((parting.event, parting.got_line.as_str()), (0, "(nothing)"));

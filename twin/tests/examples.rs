@@ -12,7 +12,7 @@ use twin::report_folder::ReportFolder;
 use twin::run_text::{run_text, Detail};
 use twin::text_parse::{case_of, report_folder_of};
 
-const NAMES: [&str; 4] = ["worked", "stopped-model", "extra-time", "refused-image"];
+const NAMES: [&str; 5] = ["worked", "stopped-model", "extra-time", "thrown-away", "refused-image"];
 
 fn file(example: &str, name: &str) -> Vec<u8> {
     let path = PathBuf::from(env!("CARGO_MANIFEST_DIR")).join("../examples").join(example).join(name);

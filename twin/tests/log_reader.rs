@@ -67,8 +67,8 @@ fn any_bytes_read_as_records_are_written_again_the_same() {
 fn cut_names_the_number_that_the_line_would_have_had() {
     let image = worked_case().image;
     assert_eq!(printed(&image, &[0x19]), "cut 1\n");
-    assert_eq!(printed(&image, &[0x10, 0x11, 0, 0]), "1 0 - - - 0 0\ncut 2\n");
-    assert_eq!(printed(&image, &[0x10, 0x10, 0x00, 0x10]), "1 0 - - - 0 0\n2 7 - - - 0 0\ncut 3\n");
+    assert_eq!(printed(&image, &[0x10, 0x11, 0, 0]), "1 0 - - - 0 0 0\ncut 2\n");
+    assert_eq!(printed(&image, &[0x10, 0x10, 0x00, 0x10]), "1 0 - - - 0 0 0\n2 7 - - - 0 0 0\ncut 3\n");
 }
 
 #[test]

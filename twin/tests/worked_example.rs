@@ -91,12 +91,12 @@ fn states_of_the_first_and_the_tenth_event() {
     let text = String::from_utf8(text).expect("ascii");
     let lines: Vec<&str> = text.lines().collect();
     assert_eq!(lines.len(), 13 * 12);
-    assert_eq!(lines[..4], ["1 0 - - - 0 0", "notice 0 0 0", "core 1 0 0 0 -", "queue"]);
+    assert_eq!(lines[..4], ["1 0 - - - 0 0 0", "notice 0 0 0", "core 1 0 0 0 -", "queue"]);
     let zero = "00000000";
     assert_eq!(lines[4], format!("vm 0 1 00001000 {} 0 0", [zero; 10].join(" ")));
     assert_eq!(lines[6], format!("vm 2 0 {} 0 0", [zero; 11].join(" ")));
     let tenth = &lines[9 * 12..10 * 12];
-    assert_eq!(tenth[..4], ["10 0 0 00001004 7 0 0", "notice 0 0 0", "core 1 1 2 1 0", "queue"]);
+    assert_eq!(tenth[..4], ["10 0 0 00001004 7 0 0 0", "notice 0 0 0", "core 1 1 2 1 0", "queue"]);
     let fields = "00000004 00000001 00000000 00000000 00001020 00000007 00000088 00000000 00000080 00000003";
     assert_eq!(tenth[4], format!("vm 0 1 00001004 {fields} 4 3"));
     assert_eq!(lines[11 * 12 + 1], "notice 0 0 0");

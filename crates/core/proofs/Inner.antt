@@ -59,7 +59,7 @@ pub tick-law : (c : Core) (at owner head : ℕ) (k : Clock) (t : Turn) (q : Queu
     → k ≡ nextClock (c .config .slots) (c .config .durations) (c .clock) → owner ≡ getD (c .config .owners) (k .slot) 0
     → head ≡ frontOf (entries (c .queue)) → t ≡ turn (c .running) at (c .config .count) owner head (k .left) (c .config .handlers) (c .vms)
     → q ≡ pick (eqb owner 255) (ofList (rest (entries (c .queue)))) (c .queue) → n ≡ noNotice
-    → record { core = record { config = c .config; clock = k; running = t .who; queue = q; vms = t .vms }; answer = record { refusal = 0; running = t .who; address = t .address; delivered = t .number; notice = n; result = 0 } } ≡ done c (Tick at)
+    → record { core = record { config = c .config; clock = k; running = t .who; queue = q; vms = t .vms }; answer = record { refusal = 0; running = t .who; address = t .address; delivered = t .number; notice = n; result = 0; removed = 0 } } ≡ done c (Tick at)
 unfolding done tickTurn tickQueue tickClock
 tick-law c at owner head k t q n hk ho hh ht hq hn =
     rw (hn, hq, ht, ho, hh, hk, turn-address (c .running) at (c .config .count) (tickOwner c) (frontOf (entries (c .queue))) (tickClock c .left) (c .config .handlers) (c .vms))

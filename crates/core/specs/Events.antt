@@ -64,8 +64,8 @@ called c v = calledFrom (c .running) (c .queue) (full c) (handlerAt (c .config) 
 
 -- what an event does that is not refused
 unfoldable pub done : Core → Event → Stepped
-done c Start = answering (startCore c) nobody noNotice 0
-done c (Tick at) = answering (tickCore c at) (tickTurn c at .number) noNotice 0
+done c Start = answering (startCore c) nobody noNotice 0 0
+done c (Tick at) = answering (tickCore c at) (tickTurn c at .number) noNotice 0 0
 done c (Stop v) = changedBy c (ending c v (vmAt c v) 2 (noticeOf 1 v))
 done c (Shutdown v) = changedBy c (renewed c v (pend 11 (vmAt c v)) nobody)
 done c (Restart v) = changedBy c (restarting c v)

@@ -6,6 +6,7 @@ use Rattle.basis.specs.Choice.{both, pick, unless}
 use Rattle.config.specs.Sizes.{within}
 use Rattle.core.specs.Sound.{sound}
 use Rattle.core.specs.State.{addressOf, full, idle, nobody, readyAt}
+use Rattle.core.specs.declared.Answer.{Answer}
 use Rattle.core.specs.declared.Core.{Core}
 use Rattle.core.specs.declared.Event.the-variants.{Call, Extra, Fault, Restart, Shutdown, Start, Stop, Tick, Write}
 use Rattle.core.specs.declared.Event.{Event}
@@ -126,7 +127,11 @@ refusalOf c e = unless (sound c) 1 (rowOf c e)
 abbrev pub noNotice : Notice
 noNotice = record { kind = 0; vm = 0; code = 0; detail = 0 }
 
+-- A7: an answer that tells nothing but who runs and where
+abbrev pub quietly : ℕ → ℕ → ℕ → Answer
+quietly refusal running address =
+    record { refusal = refusal; running = running; address = address; delivered = nobody; notice = noNotice; result = 0; removed = 0 }
+
 -- R2, R3: the state as it was; where it is not sound, the answer shows no VM
 unfoldable pub refused : Core → ℕ → Stepped
-refused c n =
-    record { core = c; answer = record { refusal = n; running = pick (eqb n 1) nobody (c .running); address = pick (eqb n 1) 0 (addressOf c); delivered = nobody; notice = noNotice; result = 0 } }
+refused c n = record { core = c; answer = quietly n (pick (eqb n 1) nobody (c .running)) (pick (eqb n 1) 0 (addressOf c)) }

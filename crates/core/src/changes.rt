@@ -8,11 +8,11 @@ use queue::Queue;
 ghost use lib.Dec.{leb};
 ghost use mathlib.Core.Path.{_≡_};
 ghost use Rattle.basis.specs.Choice.{pick};
-ghost use Rattle.core.specs.Changes.{deliveringFrom, endingFrom, errorOf, failingFrom, noticeWith, queueWithout, renewedFrom, runningWithout, turnedAwayFrom};
+ghost use Rattle.core.specs.Changes.{deliveringFrom, endingFrom, errorOf, failingFrom, noticeWith, renewedFrom, restartingFrom, runningWithout, turnedAwayFrom};
 ghost use Rattle.core.specs.Events.{calledFrom};
 ghost use Rattle.core.specs.State.{full, nobody};
 ghost use Rattle.guest.specs.Deliver.{deliver};
-ghost use Rattle.guest.specs.Record.{pend, startedAt};
+ghost use Rattle.guest.specs.Record.{pend};
 ghost use Rattle.queue.specs.Entries.{pushed};
 ghost use Rattle.vms.specs.Tick.{numberOf};
 
@@ -40,6 +40,7 @@ pub fn renewed(v: u8, vm: Vm, running: u8, queue: Queue, delivered: u8) -> Chang
         delivered: delivered,
         notice: none,
         result: 0,
+        removed: 0,
     }
 }
 
@@ -52,12 +53,13 @@ pub fn delivering(v: u8, d: Delivery, running: u8, queue: Queue) -> Change
     renewed(v, vm, running, queue, vms::number_of(number))
 }
 
-// D14, D15: the VM ends, its entries leave the queue, and where it was running nobody runs.
+// D14, D15, A8: the VM ends, its entries leave the queue, and where it was running nobody runs.
 pub fn ending(v: u8, vm: Vm, standing: u8, running: u8, queue: Queue, told: Notice) -> Change
     ensures { λ r. ⌜ r ≡ endingFrom running queue v vm standing told ⌝ }
 {
     let ended = vm.ended(standing);
-    let rest = queue.without(v);
+    let gone = queue.without(v);
+    let rest = gone.queue;
     Change {
         place: v,
         vm: ended,
@@ -66,6 +68,7 @@ pub fn ending(v: u8, vm: Vm, standing: u8, running: u8, queue: Queue, told: Noti
         delivered: Answer::NOTHING,
         notice: told,
         result: 0,
+        removed: gone.count,
     }
 }
 
@@ -77,12 +80,23 @@ pub fn failing(v: u8, vm: Vm, running: u8, queue: Queue, code: u8, detail: u32) 
     ending(v, vm, Vm::ERROR, running, queue, told)
 }
 
-// D18.
+// D18, A8.
 pub fn restarting(v: u8, entry: u32, running: u8, queue: Queue) -> Change
-    ensures { λ r. ⌜ r ≡ renewedFrom running (queueWithout queue v) v (startedAt entry) nobody ⌝ }
+    ensures { λ r. ⌜ r ≡ restartingFrom running queue v entry ⌝ }
 {
     let others = queue.without(v);
-    renewed(v, Vm::started(entry), running, others, Answer::NOTHING)
+    let none = notice(0, 0, 0, 0);
+    let rest = others.queue;
+    Change {
+        place: v,
+        vm: Vm::started(entry),
+        running: running,
+        queue: rest,
+        delivered: Answer::NOTHING,
+        notice: none,
+        result: 0,
+        removed: others.count,
+    }
 }
 
 // D20, D29: one entry more.
@@ -106,6 +120,7 @@ pub fn turned_away(v: u8, vm: Vm, running: u8, queue: Queue) -> Change
         delivered: Answer::NOTHING,
         notice: none,
         result: 1,
+        removed: 0,
     }
 }
 

@@ -11,7 +11,7 @@ use queue::Queue;
 use table::Clock;
 ghost use mathlib.Core.Path.{_≡_};
 ghost use Rattle.core.specs.Changes.{answering, changedBy};
-ghost use Rattle.core.specs.Refusals.{noNotice, refused};
+ghost use Rattle.core.specs.Refusals.{noNotice, quietly, refused};
 ghost use Rattle.core.specs.Sound.{sound};
 ghost use Rattle.core.specs.State.{freshCore, nobody};
 
@@ -47,7 +47,8 @@ pub struct Notice {
     pub detail: u32,
 }
 
-// An answer (A1). `running` is NOBODY where no VM runs, `delivered` NOTHING where nothing was delivered.
+// An answer (A1). `running` is NOBODY where no VM runs, `delivered` NOTHING where nothing was delivered; `removed` counts
+// the entries that the event took out of the queue (A8).
 #[repr(C)]
 pub struct Answer {
     pub refusal: u8,
@@ -56,6 +57,7 @@ pub struct Answer {
     pub delivered: u8,
     pub notice: Notice,
     pub result: u8,
+    pub removed: u8,
 }
 
 // The state after an event, with the answer.
@@ -69,6 +71,26 @@ impl Answer {
     pub const NOBODY: u8 = 255;
 
     pub const NOTHING: u8 = 255;
+
+    // An answer that tells nothing but who runs and where (A7, R3).
+    pub fn quiet(refusal: u8, running: u8, address: u32) -> Answer
+        ensures { λ r. ⌜ r ≡ quietly refusal running address ⌝ }
+    {
+        Answer {
+            refusal: refusal,
+            running: running,
+            address: address,
+            delivered: Answer::NOTHING,
+            notice: Notice {
+                kind: 0,
+                vm: 0,
+                code: 0,
+                detail: 0,
+            },
+            result: 0,
+            removed: 0,
+        }
+    }
 }
 
 // What an event makes of one VM, of who runs and of the queue, with the rest of its answer.
@@ -80,6 +102,7 @@ pub struct Change {
     pub delivered: u8,
     pub notice: Notice,
     pub result: u8,
+    pub removed: u8,
 }
 
 impl Core {
@@ -127,36 +150,21 @@ impl Core {
     }
 
     // A refusal: the state as it was (R2, R3).
-    fn refused(self, n: u8) -> Stepped
+    pub fn refused(self, n: u8) -> Stepped
         ensures { λ r. ⌜ r ≡ refused self n ⌝ }
     {
         let core = self;
-        let none = changes::notice(0, 0, 0, 0);
         if n == 1 {
             return Stepped {
                 core: core,
-                answer: Answer {
-                    refusal: n,
-                    running: Answer::NOBODY,
-                    address: 0,
-                    delivered: Answer::NOTHING,
-                    notice: none,
-                    result: 0,
-                },
+                answer: Answer::quiet(n, Answer::NOBODY, 0),
             };
         }
         let vms = self.vms;
         let vm = vms::vm_at(vms, self.running);
         Stepped {
             core: core,
-            answer: Answer {
-                refusal: n,
-                running: self.running,
-                address: vm.address,
-                delivered: Answer::NOTHING,
-                notice: none,
-                result: 0,
-            },
+            answer: Answer::quiet(n, self.running, vm.address),
         }
     }
 
@@ -187,27 +195,20 @@ impl Core {
                 delivered: d.delivered,
                 notice: notice,
                 result: d.result,
+                removed: d.removed,
             },
         }
     }
 
     // A core after an event that delivers nothing and has nothing to tell (A1, A2).
     fn answered(self) -> Stepped
-        ensures { λ r. ⌜ r ≡ answering self nobody noNotice 0 ⌝ }
+        ensures { λ r. ⌜ r ≡ answering self nobody noNotice 0 0 ⌝ }
     {
-        let none = changes::notice(0, 0, 0, 0);
         let vms = self.vms;
         let runs = vms::vm_at(vms, self.running);
         Stepped {
             core: self,
-            answer: Answer {
-                refusal: 0,
-                running: self.running,
-                address: runs.address,
-                delivered: Answer::NOTHING,
-                notice: none,
-                result: 0,
-            },
+            answer: Answer::quiet(0, self.running, runs.address),
         }
     }
 }

@@ -85,6 +85,7 @@ impl Core {
                 delivered: t.number,
                 notice: none,
                 result: 0,
+                removed: 0,
             },
         }
     }

@@ -5,9 +5,9 @@ use mathlib.Core.List.{List}
 use Rattle.basis.specs.Choice.{pick, unless}
 use Rattle.config.specs.Sizes.{within}
 use Rattle.core.specs.Events.{stepOf}
-use Rattle.core.specs.Refusals.{noNotice, refused}
+use Rattle.core.specs.Refusals.{refused}
 use Rattle.core.specs.Sound.{sound}
-use Rattle.core.specs.State.{freshCore, nobody}
+use Rattle.core.specs.State.{freshCore}
 use Rattle.core.specs.declared.Core.{Core}
 use Rattle.core.specs.declared.Event.the-variants.{Call, Extra, Fault, Restart, Shutdown, Start, Stop, Tick, Write}
 use Rattle.core.specs.declared.Event.{Event}
@@ -32,10 +32,6 @@ eventOf e =
     pick (eqb (e .kind) 22) (Call (e .byte) (e .word) (e .next)) (
     pick (eqb (e .kind) 23) (Write (e .byte) (e .word)) (
     Fault (e .byte) (e .word)))))))))
-
--- R2, R3: the state as it was, and an answer that shows this VM and this address
-abbrev pub refusedShowing : Core → ℕ → ℕ → ℕ → Stepped
-refusedShowing c n running address = record { core = c; answer = record { refusal = n; running = running; address = address; delivered = nobody; notice = noNotice; result = 0 } }
 
 -- an input on a state: its event; where the kind is no event's, refusal 10, below row 1 of R1
 unfoldable pub stepBy : Core → Input → Stepped

@@ -1,16 +1,14 @@
 // An event that a host hands over as numbers.
 use crate::Input;
-use core::Answer;
 use core::Core;
 use core::Event;
-use core::Notice;
 use core::Stepped;
 ghost use mathlib.Core.Path.{_≡_};
 ghost use Rattle.basis.specs.Choice.{unless};
 ghost use Rattle.config.specs.Sizes.{within};
 ghost use Rattle.core.specs.Refusals.{refused};
 ghost use Rattle.core.specs.Sound.{sound};
-ghost use Rattle.live.specs.Host.{eventOf, refusedShowing};
+ghost use Rattle.live.specs.Host.{eventOf};
 
 // Whether the kind is an event's.
 pub fn known(kind: u8) -> bool
@@ -45,33 +43,8 @@ pub fn unknown(c: Core) -> Stepped
     ensures { λ r. ⌜ r ≡ refused c (unless (sound c) 1 10) ⌝ }
 {
     if c.sound() {
-        let vms = c.vms;
-        let vm = vms::vm_at(vms, c.running);
-        refusing(c, 10, c.running, vm.address)
+        c.refused(10)
     } else {
-        refusing(c, 1, Answer::NOBODY, 0)
-    }
-}
-
-// A refusal that shows this VM and this address (R2, R3).
-fn refusing(c: Core, n: u8, running: u8, address: u32) -> Stepped
-    ensures { λ r. ⌜ r ≡ refusedShowing c n running address ⌝ }
-{
-    let none = Notice {
-        kind: 0,
-        vm: 0,
-        code: 0,
-        detail: 0,
-    };
-    Stepped {
-        core: c,
-        answer: Answer {
-            refusal: n,
-            running: running,
-            address: address,
-            delivered: Answer::NOTHING,
-            notice: none,
-            result: 0,
-        },
+        c.refused(1)
     }
 }

@@ -28,7 +28,7 @@ use Rattle.guest.specs.Deliver.{backFrom, deliver}
 use Rattle.guest.specs.Record.{endedAs, fresh, pend, savedAt, startedAt}
 use Rattle.guest.specs.Write.{write}
 use Rattle.guest.specs.declared.Vm.{Vm}
-use Rattle.promises.proofs.Slices.{vm-small}
+use Rattle.promises.proofs.Accounts.{vm-small}
 use Rattle.promises.proofs.Starting.{count-few, start-ready}
 use Rattle.promises.proofs.Steps.{Reached, at-fresh, ours-at, step-at}
 use Rattle.promises.proofs.Ticks.{tick-age, tick-ran, tick-shows}

@@ -1,4 +1,4 @@
--- The law of one moment of ours: the queue by the event's effect, whom a tick runs, and what the history shows of the effect.
+-- The law of one moment of ours: the queue by the event's effect, whom a tick runs, what the history shows of the effect, and what it removes.
 use Prim.Native.Nat.{ℕ, _<_, _≤_}
 use borrow.Author.Tests.{le-leb, leb-false, lt-leb, ne-eqb}
 use lib.Dec.{eqb}
@@ -28,7 +28,7 @@ use Rattle.promises.proofs.Facts.{eqb-same}
 use Rattle.promises.proofs.Steps.{Reached, tick-owner}
 use Rattle.promises.specs.History.{Given, Moment, moment, momentOf, ticking}
 use Rattle.promises.specs.Moments.{asks, ends, naming, spare, tableAt}
-use Rattle.promises.specs.Queueing.{Add, Effect, Keep, Remove, Take, affected, effect}
+use Rattle.promises.specs.Queueing.{Add, Effect, Keep, Remove, Take, affected, effect, removedFrom}
 use Rattle.queue.proofs.Meaning.{entries-popped, entries-pushed, entries-without}
 use Rattle.queue.specs.Entries.{entries, frontOf, others}
 use Rattle.soundness.proofs.Records.{turn-who}
@@ -50,6 +50,7 @@ pub record Lawful (g : Config) (m : Moment) : Type 0 where
   pub queue : entries (m .after .queue) ≡ affected (effect g m) (entries (m .before .queue))
   pub ran : ticking m ≡ true → m .answer .running ≡ runnerBy (m .before) (tableAt g (m .ticks))
   pub backed : Backs g m (effect g m)
+  pub removed : m .answer .removed ≡ removedFrom (effect g m) (entries (m .before .queue))
 
 -- a record that is not ready, stored at its place, is not ready there
 pub stored-unready : (l : List Vm) (w : ℕ) (x : Vm) → isReady x ≡ false → isReady (getD (set l w x) w fresh) ≡ false
@@ -68,7 +69,7 @@ module _ (g : Config) (d : Given g) (k : ℕ) (c : Core) (p : Reached g k c) whe
 
   refused-law : (e : Event) (n : ℕ) → (n ≡ 0 → ⊥) → Lawful g (momentOf k c e (refused c n))
   unfolding refused effect naming
-  refused-law e n h = let z = ne-eqb n 0 h in record { queue = rw z; ran = λ t. false-true (rw z at t); backed = rw z (rw z) }
+  refused-law e n h = let z = ne-eqb n 0 h in record { queue = rw z; ran = λ t. false-true (rw z at t); backed = rw z (rw z); removed = rw z }
 
   tick-law : (at : ℕ) → Lawful g (momentOf k c (Tick at) (done c (Tick at)))
   unfolding effect naming done tickQueue tickTurn
@@ -78,24 +79,24 @@ module _ (g : Config) (d : Given g) (k : ℕ) (c : Core) (p : Reached g k c) whe
       who e = turn-who (c .running) at (c .config .count) (tickOwner c) (frontOf (entries (c .queue))) (tickClock c .left) (c .config .handlers) (c .vms) ∙ ap (λ (o : ℕ). runnerBy c o) e
 
       go : (b : Bool) → isSpare (tableAt g k) ≡ b → tickOwner c ≡ tableAt g k → Lawful g (momentOf k c (Tick at) (done c (Tick at)))
-      go true q e = record { queue = rw (e, q) (entries-popped (c .queue)); ran = λ z. who e; backed = rw q (rw q) }
-      go false q e = record { queue = rw (e, q); ran = λ z. who e; backed = rw q (rw q) }
+      go true q e = record { queue = rw (e, q) (entries-popped (c .queue)); ran = λ z. who e; backed = rw q (rw q); removed = rw q }
+      go false q e = record { queue = rw (e, q); ran = λ z. who e; backed = rw q (rw q); removed = rw q }
 
   -- a Call, by its service
   call-law : (s n at : ℕ) → Lawful g (momentOf k c (Call s n at) (done c (Call s n at)))
   unfolding effect naming done ends asks
   call-law s n at =
       call-case P (c .running) (c .queue) (full c) (handlerAt (c .config) (c .running)) (c .running) s n (savedAt at (vmAt c (c .running)))
-      (λ h. record { queue = rw h; ran = λ z. false-true z; backed = rw h refl })
-      (λ h. record { queue = rw h; ran = λ z. false-true z; backed = rw h refl })
-      (λ h i. (let l = le-leb n 31 i in record { queue = rw (h, l); ran = λ z. false-true z; backed = rw (h, l) refl }))
-      (λ h i. (let l = lt-leb n 31 i in record { queue = rw (h, l) without; ran = λ z. false-true z; backed = rw (h, l) (refl, gone 4 refl) }))
-      (λ h. record { queue = rw h without; ran = λ z. false-true z; backed = rw h (refl, gone 3 refl) })
-      (λ h i. record { queue = rw h; ran = λ z. false-true z; backed = rw h refl })
+      (λ h. record { queue = rw h; ran = λ z. false-true z; backed = rw h refl; removed = rw h })
+      (λ h. record { queue = rw h; ran = λ z. false-true z; backed = rw h refl; removed = rw h })
+      (λ h i. (let l = le-leb n 31 i in record { queue = rw (h, l); ran = λ z. false-true z; backed = rw (h, l) refl; removed = rw (h, l) }))
+      (λ h i. (let l = lt-leb n 31 i in record { queue = rw (h, l) without; ran = λ z. false-true z; backed = rw (h, l) (refl, gone 4 refl); removed = rw (h, l) }))
+      (λ h. record { queue = rw h without; ran = λ z. false-true z; backed = rw h (refl, gone 3 refl); removed = rw h })
+      (λ h i. record { queue = rw h; ran = λ z. false-true z; backed = rw h refl; removed = rw h })
       (λ h i. (let few : c .queue .len < 16 = omega (arith, leb-false (c .config .room) (c .queue .len) i, room-few) in
-      record { queue = rw h (entries-pushed (c .running) (c .queue) few); ran = λ z. false-true z; backed = rw h (refl, eqb-same (c .running)) }))
+      record { queue = rw h (entries-pushed (c .running) (c .queue) few); ran = λ z. false-true z; backed = rw h (refl, eqb-same (c .running)); removed = rw h }))
       (λ h. (let a = lt-leb s 1 (omega arith) in let b = ne-eqb s 2 (λ e. omega arith) in let f = ne-eqb s 4 (λ e. omega arith) in
-      record { queue = rw (a, b, f) without; ran = λ z. false-true z; backed = rw (a, b, f) (refl, gone 4 refl) }))
+      record { queue = rw (a, b, f) without; ran = λ z. false-true z; backed = rw (a, b, f) (refl, gone 4 refl); removed = rw (a, b, f) }))
     where
       P : Change → Type 0
       P x = Lawful g (momentOf k c (Call s n at) (changedBy c x))
@@ -108,19 +109,19 @@ module _ (g : Config) (d : Given g) (k : ℕ) (c : Core) (p : Reached g k c) whe
 
   done-law : (e : Event) → rowOf c e ≡ 0 → Lawful g (momentOf k c e (done c e))
   unfolding effect naming done ends asks startCore
-  done-law Start r = record { queue = refl; ran = λ z. false-true z; backed = refl }
+  done-law Start r = record { queue = refl; ran = λ z. false-true z; backed = refl; removed = refl }
   done-law (Tick at) r = tick-law at
   done-law (Stop v) r =
-      record { queue = entries-without v (c .queue); ran = λ z. false-true z; backed = (refl, ap not (stored-unready (c .vms) v (endedAs 2 (vmAt c v)) refl)) }
-  done-law (Shutdown v) r = record { queue = refl; ran = λ z. false-true z; backed = refl }
-  done-law (Restart v) r = record { queue = entries-without v (c .queue); ran = λ z. false-true z; backed = (refl, rw (eqb-same v)) }
+      record { queue = entries-without v (c .queue); ran = λ z. false-true z; backed = (refl, ap not (stored-unready (c .vms) v (endedAs 2 (vmAt c v)) refl)); removed = refl }
+  done-law (Shutdown v) r = record { queue = refl; ran = λ z. false-true z; backed = refl; removed = refl }
+  done-law (Restart v) r = record { queue = entries-without v (c .queue); ran = λ z. false-true z; backed = (refl, rw (eqb-same v)); removed = refl }
   done-law (Extra v) r =
       let few : c .queue .len < 16 = omega (arith, row-extra c v r .3, room-few) in
-      record { queue = entries-pushed v (c .queue) few; ran = λ z. false-true z; backed = (refl, eqb-same v) }
+      record { queue = entries-pushed v (c .queue) few; ran = λ z. false-true z; backed = (refl, eqb-same v); removed = refl }
   done-law (Call s n at) r = call-law s n at
-  done-law (Write o x) r = record { queue = refl; ran = λ z. false-true z; backed = refl }
+  done-law (Write o x) r = record { queue = refl; ran = λ z. false-true z; backed = refl; removed = refl }
   done-law (Fault n x) r =
-      record { queue = entries-without (c .running) (c .queue); ran = λ z. false-true z; backed = (refl, ap not (stored-unready (c .vms) (c .running) (endedAs 4 (vmAt c (c .running))) refl)) }
+      record { queue = entries-without (c .running) (c .queue); ran = λ z. false-true z; backed = (refl, ap not (stored-unready (c .vms) (c .running) (endedAs 4 (vmAt c (c .running))) refl)); removed = refl }
 
   pub lawful : (e : Event) → Lawful g (moment stepOf k c e)
   lawful e = step-case c e (λ (s : Stepped). Lawful g (momentOf k c e s)) (λ n q h. refused-law e n h) (λ s r. done-law e r)

@@ -3,9 +3,11 @@ pub mod Refusing
 pub mod Place
 pub mod Steps
 pub mod Lawful
+pub mod Accounts
 pub mod Slices
 pub mod Waits
 pub mod Starting
+pub mod Removal
 pub mod Ticks
 pub mod Clocks
 pub mod Delivery

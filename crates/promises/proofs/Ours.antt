@@ -20,10 +20,12 @@ use Rattle.core.specs.declared.Stepped.{Stepped}
 use Rattle.guest.specs.Deliver.{deliver, enter}
 use Rattle.guest.specs.Record.{savedAt}
 use Rattle.guest.specs.declared.Vm.{Vm}
+use Rattle.promises.proofs.Accounts.{ours-accounts}
 use Rattle.promises.proofs.Answers.{ours-tells}
 use Rattle.promises.proofs.Clocks.{ours-clock}
 use Rattle.promises.proofs.Delivery.{ours-delivers}
 use Rattle.promises.proofs.Refusing.{ours-refuses}
+use Rattle.promises.proofs.Removal.{ours-removing}
 use Rattle.promises.proofs.Slices.{ours-slices}
 use Rattle.promises.proofs.Starting.{ours-starts, ours-stays-sound}
 use Rattle.promises.proofs.Steps.{ours-table}
@@ -39,12 +41,14 @@ ours-keeps-all =
       refuses = ours-refuses;
       stays-sound = ours-stays-sound;
       tells = ours-tells;
+      removing = ours-removing;
       table = ours-table;
       clocks = ours-clock;
       delivers = ours-delivers;
       starts = ours-starts;
       slices = ours-slices;
       waiting = ours-waiting;
+      accounts = ours-accounts;
     }
 
 called-delivers : (running : ℕ) (queue : Queue) (noRoom : Bool) (handler v s n : ℕ) (vm : Vm) → callDelivers s n ≡ true

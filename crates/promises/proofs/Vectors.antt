@@ -29,16 +29,16 @@ use Rattle.image.specs.Records.{coreFault, ownerFault, slotFault, vmFault}
 use Rattle.promises.specs.Broken.{Broken, brokenStates, clausesOf, good}
 use Rattle.promises.specs.Demands.{firstOf, linesOf}
 use Rattle.promises.specs.History.{countAfter, moments, sinceLast, stateAfter, times}
-use Rattle.promises.specs.Moments.{asks, begins, ends, entriesOf, naming, tableTo}
+use Rattle.promises.specs.Moments.{asks, begins, ends, naming, tableTo}
 use Rattle.promises.specs.Queueing.{effect, entriesNot, servedIn}
-use Rattle.promises.specs.Vectors.{Vector, callShown, linesIn, vectors}
-use Rattle.queue.specs.Entries.{frontOf, others, paddedOf, pushed, rest}
+use Rattle.promises.specs.Vectors.{Vector, callShown, linesIn, removedShown, vectors}
+use Rattle.queue.specs.Entries.{entriesOf, frontOf, others, paddedOf, pushed, rest}
 use Rattle.table.specs.Position.{hasTicked, nextClock}
 use Rattle.vms.specs.Records.{each, restFresh}
 use Rattle.vms.specs.Tick.{entering, passed, runnerOf, saving, turn, turnBy}
 
 pub vectors-hold : map (λ (v : Vector). v .found) vectors ≡ map (λ (v : Vector). v .says) vectors
-unfolding vectors linesIn callShown refusedImage readImage readEnd readSlots readVms coreFault ownerFault slotFault vmFault stepOf refusalOf rowOf sound queuedReady noneReady standingsKnown done startCore tickClock tickTurn tickQueue calledFrom runningWithout refused innerOf legal durationsFit ownersFit vmsServed hasSlot vmsRest slotsRest every some upTo joined isField stored write due deliver enter shown highest setBit clearBit pend isFresh isBlank frontOf rest others pushed paddedOf nextClock each restFresh saving runnerOf entering turnBy passed turn moments stateAfter countAfter times sinceLast tableTo naming asks begins ends entriesOf effect entriesNot servedIn firstOf linesOf
+unfolding vectors linesIn callShown removedShown refusedImage readImage readEnd readSlots readVms coreFault ownerFault slotFault vmFault stepOf refusalOf rowOf sound queuedReady noneReady standingsKnown done startCore tickClock tickTurn tickQueue calledFrom runningWithout refused innerOf legal durationsFit ownersFit vmsServed hasSlot vmsRest slotsRest every some upTo joined isField stored write due deliver enter shown highest setBit clearBit pend isFresh isBlank frontOf rest others pushed paddedOf nextClock each restFresh saving runnerOf entering turnBy passed turn moments stateAfter countAfter times sinceLast tableTo naming asks begins ends entriesOf effect entriesNot servedIn firstOf linesOf
 vectors-hold = refl
 
 -- the state that they are made from is sound

@@ -7,21 +7,20 @@ use mathlib.Core.Bool.{Bool, false, true}
 use mathlib.Core.List.{List, append-assoc, map, [], _++_, _∷_}
 use mathlib.Core.Path.{ap, refl, subst, sym, _∙_, _≡_}
 use native.Mathlib.Omega.{arith}
-use Rattle.basis.proofs.Laws.{both-left, both-right, false-true}
+use Rattle.basis.proofs.Laws.{false-true}
 use Rattle.basis.specs.Choice.{both, pick}
 use Rattle.config.specs.declared.Config.{Config}
 use Rattle.core.specs.Events.{stepOf}
 use Rattle.core.specs.declared.Core.{Core}
-use Rattle.core.specs.declared.Event.the-variants.{Call, Extra, Fault, Restart, Shutdown, Start, Stop, Tick, Write}
 use Rattle.core.specs.declared.Event.{Event}
+use Rattle.promises.proofs.Accounts.{asks-adds, spare-front, vm-small}
 use Rattle.promises.proofs.Facts.{num, times-cons, times-nil}
 use Rattle.promises.proofs.Lawful.{Backs, Lawful, lawful}
-use Rattle.promises.proofs.Slices.{spare-front, vm-small}
 use Rattle.promises.proofs.Steps.{Reached, each-of, ours-at, step-at}
 use Rattle.promises.specs.Demands.{Waiting}
-use Rattle.promises.specs.History.{Behaviour, Moment, moment, moments, next, ticksAfter, times, went}
-use Rattle.promises.specs.Moments.{asks, ends, isRequest, runs, spare}
-use Rattle.promises.specs.Queueing.{Add, Effect, Entry, Follows, Keep, Remove, Take, affected, effect, effectBy, entriesNot, followed, isRemove, marked, mineFirst, ofService, plain, removes, servedIn, tail}
+use Rattle.promises.specs.History.{Behaviour, Moment, moment, moments, next, ticksAfter, times}
+use Rattle.promises.specs.Moments.{ends, runs, spare}
+use Rattle.promises.specs.Queueing.{Add, Effect, Entry, Follows, Keep, Remove, Take, affected, effect, entriesNot, followed, isRemove, marked, mineFirst, plain, removes, servedIn, tail}
 use Rattle.queue.proofs.Meaning.{others-length}
 use Rattle.queue.specs.Entries.{entries, frontOf, others, rest}
 
@@ -74,29 +73,7 @@ not-mine w v (x ∷ p) z e = go (eqb x w) (not-mine w v p z e)
 eqb-turn : (a b : ℕ) → eqb a b ≡ false → eqb b a ≡ false
 eqb-turn a b e = ne-eqb b a (λ i. eqb-false a b e (sym i))
 
--- ---- an accepted request joins the queue
-
-pub asks-adds : (g : Config) (v : ℕ) (m : Moment) → asks v m ≡ true → effect g m ≡ Add v
-unfolding asks effect
-asks-adds g v m h =
-    let a = both-left (went m) _ h in
-    rw a (by (m .event) (both-right (went m) _ h))
-  where
-    by : (e : Event) → isRequest v (m .before) (m .answer) e ≡ true → effectBy g m e ≡ Add v
-    by Start i = false-true i
-    by (Tick at) i = false-true i
-    by (Stop w) i = false-true i
-    by (Shutdown w) i = false-true i
-    by (Restart w) i = false-true i
-    by (Extra w) i = ap Add (eqb-true w v i)
-    by (Call s n at) i =
-        (let a : s ≡ 4 = eqb-true s 4 (both-left (eqb s 4) _ i) in
-        let j = both-right (eqb s 4) _ i in
-        let r = both-left (eqb (m .answer .result) 0) _ j in
-        let w = eqb-true (m .before .running) v (both-right (eqb (m .answer .result) 0) _ j) in
-        subst (λ (x : ℕ). ofService (m .before .running) x n (m .answer .result) ≡ Add v) (sym a) (rw r (ap Add w)))
-    by (Write o x) i = false-true i
-    by (Fault k x) i = false-true i
+-- ---- what excuses a request that is not served
 
 -- an event that takes v's entries away leaves v no longer ready, or is its restart
 excused-law : (g : Config) (v : ℕ) (m : Moment) → Lawful g m → removes g v m ≡ true → ends v m ≡ true

@@ -13,20 +13,20 @@ use Rattle.core.specs.Events.{calledFrom, done, innerOf, startCore, stepOf, tic
 use Rattle.core.specs.Refusals.{refusalOf, refused, rowOf}
 use Rattle.core.specs.Sound.{noneReady, queuedReady, sound, standingsKnown}
 use Rattle.core.specs.State.{freshCore}
-use Rattle.core.specs.declared.Event.the-variants.{Call, Extra, Shutdown, Start, Stop, Tick, Write}
+use Rattle.core.specs.declared.Event.the-variants.{Call, Extra, Restart, Shutdown, Start, Stop, Tick, Write}
 use Rattle.core.specs.declared.Event.{Event}
 use Rattle.guest.specs.Bits.{clearBit, highest, setBit}
 use Rattle.guest.specs.Deliver.{deliver, due, enter, shown}
 use Rattle.guest.specs.Record.{isBlank, isFresh, pend}
 use Rattle.guest.specs.Write.{isField, stored, write}
 use Rattle.guest.specs.declared.Vm.{Vm}
-use Rattle.promises.specs.Demands.{Clocks, Delivers, Refuses, Slices, Starts, Table, Waiting, firstOf, linesOf}
+use Rattle.promises.specs.Demands.{Accounts, Clocks, Delivers, Refuses, Removing, Slices, Starts, Table, Waiting, firstOf, linesOf}
 use Rattle.promises.specs.Examples.{example}
-use Rattle.promises.specs.History.{Given, after, countAfter, moments, next, sinceLast, stateAfter, times}
-use Rattle.promises.specs.Moments.{asks, begins, ends, entriesOf, handed, naming, ranIn, spare, tableTo}
-use Rattle.promises.specs.Queueing.{effect, entriesNot, marked, plain, removes, servedIn}
-use Rattle.promises.specs.Worthless.{chargesSpare, deliverEmpty, deliverLow, emptiesPending, forgetsAddress, idleAlways, injectWaits, injectsItsOwn, invents, leavesEntries, lowest, lowestFirst, movesAtStop, newestFirst, raisesCopy, refusesAll, repeatsFirst, shutsAtOnce, untouched}
-use Rattle.queue.specs.Entries.{frontOf, others, paddedOf, pushed, rest}
+use Rattle.promises.specs.History.{Given, after, countAfter, history, moments, next, sinceLast, stateAfter, stateOf, times}
+use Rattle.promises.specs.Moments.{asks, begins, ends, handed, naming, ranIn, spare, tableTo}
+use Rattle.promises.specs.Queueing.{effect, entriesNot, marked, plain, removedIn, removes, servedIn}
+use Rattle.promises.specs.Worthless.{chargesSpare, deliverEmpty, deliverLow, emptiesPending, forgetsAddress, idleAlways, injectWaits, injectsItsOwn, invents, leavesEntries, lowest, lowestFirst, movesAtStop, newestFirst, raisesCopy, refusesAll, repeatsFirst, restartsSilent, shutsAtOnce, tellsAll, tellsNone, tellsServed, untouched}
+use Rattle.queue.specs.Entries.{entries, entriesOf, frontOf, others, paddedOf, pushed, rest}
 use Rattle.table.specs.Position.{nextClock}
 use Rattle.vms.specs.Records.{each, restFresh}
 use Rattle.vms.specs.Tick.{entering, passed, runnerOf, saving, turn, turnBy}
@@ -148,6 +148,30 @@ pub at-once-fails : Delivers shutsAtOnce → ⊥
 unfolding stepOf refusalOf rowOf sound queuedReady noneReady standingsKnown done startCore tickClock tickTurn tickQueue calledFrom runningWithout refused innerOf legal durationsFit ownersFit vmsServed hasSlot vmsRest slotsRest every some upTo joined isField stored write due deliver enter shown highest setBit clearBit pend isFresh isBlank frontOf rest others pushed paddedOf nextClock each restFresh saving runnerOf entering turnBy passed turn moments stateAfter countAfter times sinceLast tableTo naming asks begins ends entriesOf effect entriesNot servedIn firstOf linesOf
 at-once-fails h = let z : _≡_ {A = ℕ} 11 255 = h (example 1) given-1 (Start ∷ Tick 0 ∷ Write 8 2048 ∷ []) (Shutdown 0) .accepted refl .never in omega arith
 
+-- M6: the balance of VM 0, of whose one entry the queue of two is told to have lost two
+pub tells-all-fails : Accounts tellsAll → ⊥
+unfolding stepOf refusalOf rowOf sound queuedReady noneReady standingsKnown done startCore tickClock tickTurn tickQueue calledFrom runningWithout refused innerOf legal durationsFit ownersFit vmsServed hasSlot vmsRest slotsRest every some upTo joined isField stored write due deliver enter shown highest setBit clearBit pend isFresh isBlank frontOf rest others pushed paddedOf nextClock each restFresh saving runnerOf entering turnBy passed turn moments stateAfter countAfter times sinceLast tableTo naming asks begins ends entriesOf effect entriesNot servedIn firstOf linesOf removedIn
+tells-all-fails h = let z : _≡_ {A = ℕ} 1 2 = h (example 2) given-2 0 (omega arith) (Start ∷ Extra 0 ∷ Extra 1 ∷ Stop 0 ∷ []) .accepted in omega arith
+
+-- M6: a request that was neither served nor removed, and does not stand
+pub tells-none-fails : Accounts tellsNone → ⊥
+unfolding stepOf refusalOf rowOf sound queuedReady noneReady standingsKnown done startCore tickClock tickTurn tickQueue calledFrom runningWithout refused innerOf legal durationsFit ownersFit vmsServed hasSlot vmsRest slotsRest every some upTo joined isField stored write due deliver enter shown highest setBit clearBit pend isFresh isBlank frontOf rest others pushed paddedOf nextClock each restFresh saving runnerOf entering turnBy passed turn moments stateAfter countAfter times sinceLast tableTo naming asks begins ends entriesOf effect entriesNot servedIn firstOf linesOf removedIn
+tells-none-fails h = let z : _≡_ {A = ℕ} 1 0 = h (example 2) given-2 0 (omega arith) (Start ∷ Extra 0 ∷ Stop 0 ∷ []) .accepted in omega arith
+
+pub silent-fails : Accounts restartsSilent → ⊥
+unfolding stepOf refusalOf rowOf sound queuedReady noneReady standingsKnown done startCore tickClock tickTurn tickQueue calledFrom runningWithout refused innerOf legal durationsFit ownersFit vmsServed hasSlot vmsRest slotsRest every some upTo joined isField stored write due deliver enter shown highest setBit clearBit pend isFresh isBlank frontOf rest others pushed paddedOf nextClock each restFresh saving runnerOf entering turnBy passed turn moments stateAfter countAfter times sinceLast tableTo naming asks begins ends entriesOf effect entriesNot servedIn firstOf linesOf removedIn
+silent-fails h = let z : _≡_ {A = ℕ} 1 0 = h (example 2) given-2 0 (omega arith) (Start ∷ Extra 0 ∷ Restart 0 ∷ []) .accepted in omega arith
+
+-- M4: the entry that is told as removed still stands
+pub leaves-accounts-fails : Accounts leavesEntries → ⊥
+unfolding stepOf refusalOf rowOf sound queuedReady noneReady standingsKnown done startCore tickClock tickTurn tickQueue calledFrom runningWithout refused innerOf legal durationsFit ownersFit vmsServed hasSlot vmsRest slotsRest every some upTo joined isField stored write due deliver enter shown highest setBit clearBit pend isFresh isBlank frontOf rest others pushed paddedOf nextClock each restFresh saving runnerOf entering turnBy passed turn moments stateAfter countAfter times sinceLast tableTo naming asks begins ends entriesOf effect entriesNot servedIn firstOf linesOf removedIn
+leaves-accounts-fails h = let z : _≡_ {A = ℕ} 1 2 = h (example 2) given-2 1 (omega arith) (Start ∷ Extra 1 ∷ Stop 1 ∷ []) .accepted in omega arith
+
+-- A8: the demand on what is removed, at a spare tick
+pub served-fails : Removing tellsServed → ⊥
+unfolding stepOf refusalOf rowOf sound queuedReady noneReady standingsKnown done startCore tickClock tickTurn tickQueue calledFrom runningWithout refused innerOf legal durationsFit ownersFit vmsServed hasSlot vmsRest slotsRest every some upTo joined isField stored write due deliver enter shown highest setBit clearBit pend isFresh isBlank frontOf rest others pushed paddedOf nextClock each restFresh saving runnerOf entering turnBy passed turn moments stateAfter countAfter times sinceLast tableTo naming asks begins ends entriesOf effect entriesNot servedIn firstOf linesOf removedIn
+served-fails h = let z : _≡_ {A = ℕ} 1 0 = h (example 1) given-1 (Start ∷ Extra 0 ∷ Tick 0 ∷ Tick 0 ∷ Tick 0 ∷ []) (Tick 0) .count in omega arith
+
 -- ---- the promises are not empty: one run of ours in which their premises hold
 
 abbrev begun : List Event
@@ -167,3 +191,15 @@ pub not-empty :
     × (servedIn (example 2) 0 (plain 1 ∷ marked 0 ∷ []) (after stepOf (next stepOf (example 2) begun (Extra 0)) ticks8) ≡ true)
 unfolding stepOf refusalOf rowOf sound queuedReady noneReady standingsKnown done startCore tickClock tickTurn tickQueue calledFrom runningWithout refused innerOf legal durationsFit ownersFit vmsServed hasSlot vmsRest slotsRest every some upTo joined isField stored write due deliver enter shown highest setBit clearBit pend isFresh isBlank frontOf rest others pushed paddedOf nextClock each restFresh saving runnerOf entering turnBy passed turn moments stateAfter countAfter times sinceLast tableTo naming asks begins ends entriesOf effect entriesNot servedIn firstOf linesOf
 not-empty = (refl, refl, refl, refl, refl, refl, refl)
+
+abbrev mixed : List Event
+mixed = Start ∷ Extra 0 ∷ Extra 1 ∷ Extra 0 ∷ Extra 0 ∷ Tick 0 ∷ Tick 0 ∷ Tick 0 ∷ Tick 0 ∷ Stop 1 ∷ Restart 0 ∷ Extra 0 ∷ []
+
+-- of four requests of VM 0 one is served, two are removed, and one still stands
+pub accounts-not-empty :
+    (times (asks 0) (history stepOf (example 4) mixed) ≡ 4)
+    × (times (handed (example 4) 0) (history stepOf (example 4) mixed) ≡ 1)
+    × (removedIn (example 4) 0 (history stepOf (example 4) mixed) ≡ 2)
+    × (entriesOf 0 (entries (stateOf stepOf (example 4) mixed .queue)) ≡ 1)
+unfolding stepOf refusalOf rowOf sound queuedReady noneReady standingsKnown done startCore tickClock tickTurn tickQueue calledFrom runningWithout refused innerOf legal durationsFit ownersFit vmsServed hasSlot vmsRest slotsRest every some upTo joined isField stored write due deliver enter shown highest setBit clearBit pend isFresh isBlank frontOf rest others pushed paddedOf nextClock each restFresh saving runnerOf entering turnBy passed turn moments stateAfter countAfter times sinceLast tableTo naming asks begins ends entriesOf effect entriesNot servedIn firstOf linesOf removedIn
+accounts-not-empty = (refl, refl, refl, refl)

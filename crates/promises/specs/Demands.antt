@@ -24,9 +24,9 @@ use Rattle.guest.specs.declared.Found.the-variants.{At, Nothing}
 use Rattle.guest.specs.declared.Found.{Found}
 use Rattle.guest.specs.declared.Vm.{Vm}
 use Rattle.promises.specs.History.{Behaviour, Each, Given, Moment, after, history, next, sinceLast, stateOf, stretch, ticking, ticksOf, times, went}
-use Rattle.promises.specs.Moments.{asks, begins, ends, entriesOf, handed, naming, ranIn, runs, spare, sumOf, tableAt, tableTo}
-use Rattle.promises.specs.Queueing.{Follows, marked, plain, removes, servedIn}
-use Rattle.queue.specs.Entries.{entries}
+use Rattle.promises.specs.Moments.{asks, begins, ends, handed, naming, ranIn, runs, spare, sumOf, tableAt, tableTo}
+use Rattle.promises.specs.Queueing.{Follows, effect, marked, plain, removedFrom, removedIn, removes, servedIn}
+use Rattle.queue.specs.Entries.{entries, entriesOf}
 use Rattle.table.specs.Position.{hasTicked, isStarted}
 use Rattle.table.specs.declared.Clock.{Clock}
 use Rattle.vms.specs.Tick.{numberOf}
@@ -62,7 +62,7 @@ firstOf (l ∷ ls) = pick (l .applies) (l .number) (firstOf ls)
 -- R3: what a refusal with n answers
 abbrev pub saysNo : Core → ℕ → Answer
 saysNo c n =
-    record { refusal = n; running = pick (eqb n 1) nobody (c .running); address = pick (eqb n 1) 0 (addressOf c); delivered = nobody; notice = noNotice; result = 0 }
+    record { refusal = n; running = pick (eqb n 1) nobody (c .running); address = pick (eqb n 1) 0 (addressOf c); delivered = nobody; notice = noNotice; result = 0; removed = 0 }
 
 -- the number is that of the first line that applies; an event with a number leaves the state, and answers as R3 says
 pub record RefusedAs (b : Behaviour) (c : Core) (e : Event) : Type 0 where
@@ -116,6 +116,17 @@ pub record TellsOf (m : Moment) : Type 0 where
 
 abbrev pub Tells : Behaviour → Type 0
 Tells b = (g : Config) → Given g → (es : List Event) (e : Event) → TellsOf (next b g es e)
+
+-- ---- second demand: what is removed from the queue
+
+pub record RemovesOf (g : Config) (m : Moment) : Type 0 where
+  -- A8: as many entries as its VM had before an event that takes them out; 0 at every other event, and at a refusal
+  pub count : m .answer .removed ≡ removedFrom (effect g m) (entries (m .before .queue))
+  -- by so many such an event leaves the queue shorter
+  pub shorter : (v : ℕ) → removes g v m ≡ true → m .before .queue .len ≡ m .after .queue .len + m .answer .removed
+
+abbrev pub Removing : Behaviour → Type 0
+Removing b = (g : Config) → Given g → (es : List Event) (e : Event) → RemovesOf g (next b g es e)
 
 -- ---- second demand: the table
 
@@ -310,15 +321,26 @@ Waiting b =
     (g : Config) → Given g → (v : ℕ) → v < g .count → (es : List Event) (e : Event) (fs : List Event)
     → asks v (next b g es e) ≡ true → WaitingOf g v (entries (next b g es e .before .queue)) (after b (next b g es e) fs)
 
+-- ---- third demand: what became of the requests
+
+-- Begin fresh, send any events es: the requests of v that were accepted are those that a spare tick served, those removed, and those that still stand.
+pub record AccountOf (b : Behaviour) (g : Config) (v : ℕ) (es : List Event) : Type 0 where
+  pub accepted : times (asks v) (history b g es) ≡ times (handed g v) (history b g es) + (removedIn g v (history b g es) + entriesOf v (entries (stateOf b g es .queue)))
+
+abbrev pub Accounts : Behaviour → Type 0
+Accounts b = (g : Config) → Given g → (v : ℕ) → v < g .count → (es : List Event) → AccountOf b g v es
+
 -- ---- all of them
 
 pub record KeepsAll (b : Behaviour) : Type 0 where
   pub refuses : Refuses b
   pub stays-sound : StaysSound b
   pub tells : Tells b
+  pub removing : Removing b
   pub table : Table b
   pub clocks : Clocks b
   pub delivers : Delivers b
   pub starts : Starts b
   pub slices : Slices b
   pub waiting : Waiting b
+  pub accounts : Accounts b

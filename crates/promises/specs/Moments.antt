@@ -1,10 +1,10 @@
 -- What a moment of a history is: a tick of the table, a spare tick, a tick that runs a VM, a request, a start, an end.
-use Prim.Native.Nat.{suc, ℕ, _%_}
+use Prim.Native.Nat.{ℕ, _%_}
 use lib.Dec.{eqb}
 use lib.ListN.{getD, length, replicate}
 use mathlib.Core.Bool.{Bool, false, not}
-use mathlib.Core.List.{List, [], _∷_}
-use Rattle.basis.specs.Choice.{both, either, pick}
+use mathlib.Core.List.{List}
+use Rattle.basis.specs.Choice.{both, either}
 use Rattle.basis.specs.Count.{joined}
 use Rattle.config.specs.Sizes.{durationAt, ownerAt}
 use Rattle.config.specs.declared.Config.{Config}
@@ -84,8 +84,3 @@ begins v m = both (went m) (either (isStart (m .event)) (isRestart v (m .event))
 -- v is stopped, shut down, in error (so: no longer ready), or restarted
 unfoldable pub ends : ℕ → Moment → Bool
 ends v m = both (went m) (either (isRestart v (m .event)) (not (readyAt (m .after) v)))
-
--- the entries of v
-unfoldable pub entriesOf : ℕ → List ℕ → ℕ
-entriesOf v [] = 0
-entriesOf v (x ∷ q) = pick (eqb x v) (suc (entriesOf v q)) (entriesOf v q)

@@ -1,5 +1,5 @@
 -- What the rules say that an event does to the queue, and the queue with one request marked.
-use Prim.Native.Nat.{ℕ}
+use Prim.Native.Nat.{ℕ, _+_}
 use lib.Dec.{eqb, leb}
 use mathlib.Core.Bool.{Bool, false, true}
 use mathlib.Core.List.{List, map, [], _++_, _∷_}
@@ -11,7 +11,7 @@ use Rattle.core.specs.declared.Event.the-variants.{Call, Extra, Fault, Restart,
 use Rattle.core.specs.declared.Event.{Event}
 use Rattle.promises.specs.History.{Moment, went}
 use Rattle.promises.specs.Moments.{runs, spare, tableAt}
-use Rattle.queue.specs.Entries.{entries, others, rest}
+use Rattle.queue.specs.Entries.{entries, entriesOf, others, rest}
 
 pub data Effect : Type 0 where
   Keep Take : Effect
@@ -46,6 +46,13 @@ affected Take q = rest q
 affected (Add w) q = q ++ (w ∷ [])
 affected (Remove w) q = others w q
 
+-- A8: how many of these entries an effect removes
+abbrev pub removedFrom : Effect → List ℕ → ℕ
+removedFrom Keep q = 0
+removedFrom Take q = 0
+removedFrom (Add w) q = 0
+removedFrom (Remove w) q = entriesOf w q
+
 -- the event takes v's entries away: v is stopped, shut down, in error or restarted
 abbrev pub isRemove : ℕ → Effect → Bool
 isRemove v Keep = false
@@ -55,6 +62,11 @@ isRemove v (Remove w) = eqb w v
 
 abbrev pub removes : Config → ℕ → Moment → Bool
 removes g v m = isRemove v (effect g m)
+
+-- how many entries of v were removed in ms, as the answers tell
+unfoldable pub removedIn : Config → ℕ → List Moment → ℕ
+removedIn g v [] = 0
+removedIn g v (m ∷ ms) = pick (removes g v m) (m .answer .removed) 0 + removedIn g v ms
 
 -- an entry of the queue, and whether it is the request that is followed
 pub record Entry : Type 0 where

@@ -1,4 +1,4 @@
--- The vectors of the rules as one table: X1 with the thirteen lines of X2, and P1 to P11.
+-- The vectors of the rules as one table: X1 with the thirteen lines of X2, and P1 to P12.
 use Prim.Native.Nat.{ℕ, _-_}
 use lib.ListN.{drop, getD, take}
 use mathlib.Core.List.{List, map, [], _∷_}
@@ -7,7 +7,7 @@ use Rattle.core.specs.Events.{stepOf}
 use Rattle.core.specs.State.{vmAt}
 use Rattle.core.specs.declared.Answer.{Answer}
 use Rattle.core.specs.declared.Core.{Core}
-use Rattle.core.specs.declared.Event.the-variants.{Call, Start, Stop, Tick, Write}
+use Rattle.core.specs.declared.Event.the-variants.{Call, Extra, Fault, Restart, Start, Stop, Tick, Write}
 use Rattle.core.specs.declared.Event.{Event}
 use Rattle.core.specs.declared.Stepped.{Stepped}
 use Rattle.guest.specs.Record.{blank}
@@ -16,6 +16,7 @@ use Rattle.image.specs.Reader.{readImage}
 use Rattle.promises.specs.Examples.{example}
 use Rattle.promises.specs.History.{Moment, history, stateOf}
 use Rattle.promises.specs.Worthless.{withVm}
+use Rattle.queue.specs.Entries.{entries}
 
 -- the rule, what the definitions give, and what the rule says
 pub data Rule : Type 0 where
@@ -52,9 +53,9 @@ exampleEvents =
     Start ∷ Tick 0 ∷ Write 8 0x88 ∷ Write 32 0x80 ∷ Tick 0x1010 ∷ Call 1 0 0x1040 ∷ Call 4 0 0x1014 ∷ Call 4 0 0x1018
     ∷ Tick 0x1020 ∷ Tick 0x2008 ∷ Stop 2 ∷ Stop 0 ∷ Tick 0 ∷ []
 
--- the parts of an answer, in the order of N3: refusal, VM or 255, address, number delivered or 255, notice, result
+-- the parts of an answer, in the order of N3: refusal, VM or 255, address, number delivered or 255, notice, result, number removed
 abbrev pub lineOf : Answer → List ℕ
-lineOf a = a .refusal ∷ a .running ∷ a .address ∷ a .delivered ∷ a .notice .kind ∷ a .result ∷ []
+lineOf a = a .refusal ∷ a .running ∷ a .address ∷ a .delivered ∷ a .notice .kind ∷ a .result ∷ a .removed ∷ []
 
 unfoldable pub linesIn : Config → List Event → List (List ℕ)
 linesIn g es = map (λ (m : Moment). lineOf (m .answer)) (history stepOf g es)
@@ -94,6 +95,14 @@ ranState n =
 abbrev pub ranShown : Stepped → List ℕ
 ranShown s = s .answer .running ∷ vmAt (s .core) 0 .ran ∷ vmAt (s .core) 0 .status .running ∷ []
 
+-- the number removed, and the entries left
+abbrev pub removedBy : Moment → List ℕ
+removedBy m = m .answer .removed ∷ entries (m .after .queue)
+
+-- the same for e, where a queue of 4 holds 0, 1, 0
+unfoldable pub removedShown : Event → List ℕ
+removedShown e = getD (map removedBy (history stepOf (example 4) (Start ∷ Tick 0 ∷ Extra 0 ∷ Extra 1 ∷ Call 4 0 0x1010 ∷ e ∷ []))) 5 []
+
 unfoldable pub vectors : List Vector
 vectors =
     record { rule = InX1; found = judged exampleImage ∷ partsOf (readImage exampleImage .config); says = (0 ∷ 0 ∷ []) ∷ partsOf (example 1) }
@@ -101,24 +110,24 @@ vectors =
       rule = InX2;
       found = linesIn (example 1) exampleEvents;
       says =
-          (0 ∷ 255 ∷ 0 ∷ 255 ∷ 0 ∷ 0 ∷ [])
-          ∷ (0 ∷ 0 ∷ 0x1000 ∷ 255 ∷ 0 ∷ 0 ∷ [])
-          ∷ (0 ∷ 0 ∷ 0x1000 ∷ 255 ∷ 0 ∷ 0 ∷ [])
-          ∷ (0 ∷ 0 ∷ 0x1000 ∷ 255 ∷ 0 ∷ 0 ∷ [])
-          ∷ (0 ∷ 0 ∷ 0x1004 ∷ 7 ∷ 0 ∷ 0 ∷ [])
-          ∷ (0 ∷ 0 ∷ 0x1010 ∷ 255 ∷ 0 ∷ 0 ∷ [])
-          ∷ (0 ∷ 0 ∷ 0x1014 ∷ 255 ∷ 0 ∷ 0 ∷ [])
-          ∷ (0 ∷ 0 ∷ 0x1018 ∷ 255 ∷ 0 ∷ 1 ∷ [])
-          ∷ (0 ∷ 1 ∷ 0x2000 ∷ 255 ∷ 0 ∷ 0 ∷ [])
-          ∷ (0 ∷ 0 ∷ 0x1004 ∷ 7 ∷ 0 ∷ 0 ∷ [])
-          ∷ (3 ∷ 0 ∷ 0x1004 ∷ 255 ∷ 0 ∷ 0 ∷ [])
-          ∷ (0 ∷ 255 ∷ 0 ∷ 255 ∷ 1 ∷ 0 ∷ [])
-          ∷ (0 ∷ 255 ∷ 0 ∷ 255 ∷ 0 ∷ 0 ∷ [])
+          (0 ∷ 255 ∷ 0 ∷ 255 ∷ 0 ∷ 0 ∷ 0 ∷ [])
+          ∷ (0 ∷ 0 ∷ 0x1000 ∷ 255 ∷ 0 ∷ 0 ∷ 0 ∷ [])
+          ∷ (0 ∷ 0 ∷ 0x1000 ∷ 255 ∷ 0 ∷ 0 ∷ 0 ∷ [])
+          ∷ (0 ∷ 0 ∷ 0x1000 ∷ 255 ∷ 0 ∷ 0 ∷ 0 ∷ [])
+          ∷ (0 ∷ 0 ∷ 0x1004 ∷ 7 ∷ 0 ∷ 0 ∷ 0 ∷ [])
+          ∷ (0 ∷ 0 ∷ 0x1010 ∷ 255 ∷ 0 ∷ 0 ∷ 0 ∷ [])
+          ∷ (0 ∷ 0 ∷ 0x1014 ∷ 255 ∷ 0 ∷ 0 ∷ 0 ∷ [])
+          ∷ (0 ∷ 0 ∷ 0x1018 ∷ 255 ∷ 0 ∷ 1 ∷ 0 ∷ [])
+          ∷ (0 ∷ 1 ∷ 0x2000 ∷ 255 ∷ 0 ∷ 0 ∷ 0 ∷ [])
+          ∷ (0 ∷ 0 ∷ 0x1004 ∷ 7 ∷ 0 ∷ 0 ∷ 0 ∷ [])
+          ∷ (3 ∷ 0 ∷ 0x1004 ∷ 255 ∷ 0 ∷ 0 ∷ 0 ∷ [])
+          ∷ (0 ∷ 255 ∷ 0 ∷ 255 ∷ 1 ∷ 0 ∷ 0 ∷ [])
+          ∷ (0 ∷ 255 ∷ 0 ∷ 255 ∷ 0 ∷ 0 ∷ 0 ∷ [])
           ∷ [];
     }
     ∷ vector (InP 1) (fieldsOf (vmAt (stateOf stepOf (example 1) (take 10 exampleEvents)) 0 .status)) (4 ∷ 1 ∷ 0 ∷ 0 ∷ 0x1020 ∷ 7 ∷ 0x88 ∷ 0 ∷ 0x80 ∷ 3 ∷ [])
     ∷ vector (InP 2) (drop 2 (take 4 (exampleLine 5))) (0x1004 ∷ 7 ∷ [])
-    ∷ vector (InP 3) (drop 5 (exampleLine 8)) (1 ∷ [])
+    ∷ vector (InP 3) (drop 5 (exampleLine 8)) (1 ∷ 0 ∷ [])
     ∷ vector (InP 4) (take 3 (exampleLine 11)) (3 ∷ 0 ∷ 0x1004 ∷ [])
     ∷ vector (InP 5) (take 2 (exampleLine 13)) (0 ∷ 255 ∷ [])
     ∷ vector (InP 6) (judged []) (20 ∷ 0 ∷ [])
@@ -131,4 +140,9 @@ vectors =
     ∷ vector (InP 10) (callShown 0 0 (Call 2 31 0x1030)) (1 ∷ 0x80000000 ∷ 0 ∷ 0x1030 ∷ 0 ∷ 255 ∷ 0 ∷ 0 ∷ 0 ∷ 0 ∷ [])
     ∷ vector (InP 10) (callShown 0 0 (Call 2 32 0x1030)) (4 ∷ 0 ∷ 0 ∷ 0x1030 ∷ 0 ∷ 255 ∷ 3 ∷ 0 ∷ 2 ∷ 32 ∷ [])
     ∷ vector (InP 11) (ranShown (stepOf (ranState 4294967295) (Tick 0))) (0 ∷ 0 ∷ 0 ∷ [])
+    ∷ record {
+      rule = InP 12;
+      found = map removedShown (Stop 0 ∷ Restart 0 ∷ Fault 3 0 ∷ Call 3 0 0x1020 ∷ Call 2 32 0x1020 ∷ Call 5 0 0x1020 ∷ Stop 1 ∷ []);
+      says = (2 ∷ 1 ∷ []) ∷ (2 ∷ 1 ∷ []) ∷ (2 ∷ 1 ∷ []) ∷ (2 ∷ 1 ∷ []) ∷ (2 ∷ 1 ∷ []) ∷ (2 ∷ 1 ∷ []) ∷ (1 ∷ 0 ∷ 0 ∷ []) ∷ [];
+    }
     ∷ []

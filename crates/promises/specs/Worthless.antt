@@ -1,4 +1,4 @@
--- Behaviours that are not to pass: worthless cores, and ours with one easy mistake in it (M1 to M5).
+-- Behaviours that are not to pass: worthless cores, and ours with one easy mistake in it (M1 to M6).
 use Prim.Native.Nat.{suc, zero, ℕ, _%_, _+_, _-_, _^_}
 use lib.Dec.{eqb, ltb}
 use lib.ListN.{getD, set}
@@ -90,7 +90,7 @@ abbrev pub idleAlways : Behaviour
 idleAlways c e =
     record {
       core = stepOf c e .core;
-      answer = record { refusal = stepOf c e .answer .refusal; running = nobody; address = 0; delivered = stepOf c e .answer .delivered; notice = stepOf c e .answer .notice; result = stepOf c e .answer .result };
+      answer = record { refusal = stepOf c e .answer .refusal; running = nobody; address = 0; delivered = stepOf c e .answer .delivered; notice = stepOf c e .answer .notice; result = stepOf c e .answer .result; removed = stepOf c e .answer .removed };
     }
 
 -- every tick does what the first did: it enters slot 0
@@ -180,7 +180,7 @@ abbrev pub deliveringBy : (ℕ → Vm → Delivery) → (ℕ → ℕ → Vm → 
 deliveringBy d i c Start = innerOf c Start
 deliveringBy d i c (Tick at) =
     pick (eqb (rowOf c (Tick at)) 0)
-    (answering (record { config = c .config; clock = tickClock c; running = tickBy d c at .who; queue = tickQueue c; vms = tickBy d c at .vms }) (tickBy d c at .number) noNotice 0)
+    (answering (record { config = c .config; clock = tickClock c; running = tickBy d c at .who; queue = tickQueue c; vms = tickBy d c at .vms }) (tickBy d c at .number) noNotice 0 0)
     (refused c (rowOf c (Tick at)))
 deliveringBy d i c (Stop v) = innerOf c (Stop v)
 deliveringBy d i c (Shutdown v) = innerOf c (Shutdown v)
@@ -241,3 +241,35 @@ shutsAtOnce c (Extra v) = stepOf c (Extra v)
 shutsAtOnce c (Call s n at) = stepOf c (Call s n at)
 shutsAtOnce c (Write o x) = stepOf c (Write o x)
 shutsAtOnce c (Fault k d) = stepOf c (Fault k d)
+
+-- ours, telling that n entries were removed
+abbrev pub withRemoved : Stepped → ℕ → Stepped
+withRemoved s n =
+    record {
+      core = s .core;
+      answer = record { refusal = s .answer .refusal; running = s .answer .running; address = s .answer .address; delivered = s .answer .delivered; notice = s .answer .notice; result = s .answer .result; removed = n };
+    }
+
+-- M6: tells the entries of all VMs, where any was removed
+abbrev pub tellsAll : Behaviour
+tellsAll c e = withRemoved (stepOf c e) (pick (eqb (stepOf c e .answer .removed) 0) 0 (c .queue .len))
+
+-- M6: tells how many the VM has left, which is none
+abbrev pub tellsNone : Behaviour
+tellsNone c e = withRemoved (stepOf c e) 0
+
+-- M6: tells nothing at a Restart
+abbrev pub restartsSilent : Behaviour
+restartsSilent c Start = stepOf c Start
+restartsSilent c (Tick at) = stepOf c (Tick at)
+restartsSilent c (Stop v) = stepOf c (Stop v)
+restartsSilent c (Shutdown v) = stepOf c (Shutdown v)
+restartsSilent c (Restart v) = withRemoved (stepOf c (Restart v)) 0
+restartsSilent c (Extra v) = stepOf c (Extra v)
+restartsSilent c (Call s n at) = stepOf c (Call s n at)
+restartsSilent c (Write o x) = stepOf c (Write o x)
+restartsSilent c (Fault k d) = stepOf c (Fault k d)
+
+-- A8: tells the entry that a spare tick serves as removed
+abbrev pub tellsServed : Behaviour
+tellsServed = tickThen (λ c s. withRemoved s (c .queue .len - s .core .queue .len))

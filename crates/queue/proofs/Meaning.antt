@@ -14,7 +14,7 @@ use native.Mathlib.Omega.{arith}
 use Rattle.basis.proofs.Laws.{either-is, either-left, either-right, every-is, every-of}
 use Rattle.basis.specs.Choice.{either, pick}
 use Rattle.queue.proofs.Lists.{length-pad, pad, pad-at, past-at, take-at-in, take-at-past}
-use Rattle.queue.specs.Entries.{All, entries, frontOf, ofList, others, paddedOf, pushed, rest}
+use Rattle.queue.specs.Entries.{All, entries, entriesOf, frontOf, ofList, others, paddedOf, pushed, rest}
 use Rattle.queue.specs.declared.Queue.{Queue}
 
 -- frontOf and rest
@@ -56,14 +56,19 @@ rest-at [] k = refl
 rest-at (x ∷ l) k = rw add-one
 
 -- others
-pub others-length : (v : ℕ) (l : List ℕ) → length (others v l) ≤ length l
-unfolding others
-others-length v [] = omega arith
-others-length v (x ∷ l) = go (eqb x v) (others-length v l)
+-- the entries are those that stay and those of v
+pub others-count : (v : ℕ) (l : List ℕ) → length l ≡ length (others v l) + entriesOf v l
+unfolding others entriesOf
+others-count v [] = refl
+others-count v (x ∷ l) = go (eqb x v) (others-count v l)
   where
-    go : (b : Bool) → length (others v l) ≤ length l → length (pick b (others v l) (x ∷ others v l)) ≤ suc (length l)
+    go : (b : Bool) → length l ≡ length (others v l) + entriesOf v l
+        → suc (length l) ≡ length (pick b (others v l) (x ∷ others v l)) + pick b (suc (entriesOf v l)) (entriesOf v l)
     go true h = omega arith
     go false h = omega arith
+
+pub others-length : (v : ℕ) (l : List ℕ) → length (others v l) ≤ length l
+others-length v l = omega (arith, others-count v l)
 
 pub others-append : (v : ℕ) (l m : List ℕ) → others v (l ++ m) ≡ others v l ++ others v m
 unfolding others

@@ -15,9 +15,10 @@ use Rattle.basis.proofs.Laws.{every-more, false-true, or-none}
 use Rattle.basis.specs.Choice.{both, either, pick}
 use Rattle.basis.specs.Count.{every, upTo}
 use Rattle.queue.proofs.Lists.{filled, filled-is, length-pad, pad, pad-at, pad-snoc, past-at, snoc-at, take-at-in, take-at-pick}
-use Rattle.queue.proofs.Meaning.{others-append, others-drops, others-keeps, others-length, queue-is, rest-at, rest-length}
-use Rattle.queue.specs.Entries.{ofList, others, rest}
+use Rattle.queue.proofs.Meaning.{others-append, others-count, others-drops, others-keeps, others-length, queue-is, rest-at, rest-length}
+use Rattle.queue.specs.Entries.{entries, entriesOf, ofList, others, removal, rest}
 use Rattle.queue.specs.declared.Queue.{Queue}
+use Rattle.queue.specs.declared.Removal.{Removal}
 
 -- the places when the oldest entry has left
 abbrev pub upward : ℕ → List ℕ → ℕ → ℕ
@@ -142,6 +143,17 @@ pub without-is : (v n : ℕ) (items out : List ℕ) (k m : ℕ) → length items
 without-is v n items out k m s e f g =
     let w : kept v n items k ≡ others v (take n items) = ap (others v) (take-all k (take n items) (simp length-take (omega arith))) in
     queue-is (others v (take n items)) out m (rw w at g) (rw w at f)
+
+-- a queue that the entries of v have left is no longer than it was, and shorter by as many as left
+module _ (v : ℕ) (q r : Queue) (before : ℕ) (s : length (q .items) ≡ 16) (e : before ≡ min (q .len) 16) (f : r ≡ ofList (others v (entries q))) where
+  long : before ≡ r .len + entriesOf v (entries q)
+  long = omega (arith, e, length-take (q .len) (q .items), s, others-count v (entries q), ap (λ (x : Queue). x .len) f)
+
+  pub removed-few : r .len ≤ before
+  removed-few = omega (arith, long)
+
+  pub removal-is : (count : ℕ) → count ≡ before - r .len → _≡_ {A = Removal} (record { queue = r; count = count }) (removal v q)
+  removal-is count g = let h : count ≡ entriesOf v (entries q) = omega (arith, g, long) in rw (f, h)
 
 -- a turn of the loop that joins the places past the entries
 pub past-more : (n : ℕ) (items : List ℕ) (k bits y : ℕ) → eqb bits 0 ≡ every (λ j. either (ltb j n) (eqb (getD items j 0) 0)) k → y ≡ pick (ltb k n) 0 (getD items k 0)

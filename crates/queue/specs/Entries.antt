@@ -1,5 +1,5 @@
 -- The queue for extra time (T5) as the list of its entries, the oldest first, and what is done to it.
-use Prim.Native.Nat.{ℕ, _-_}
+use Prim.Native.Nat.{suc, ℕ, _-_}
 use lib.Dec.{eqb, ltb}
 use lib.ListN.{getD, length, replicate, take}
 use mathlib.Core.Bool.{Bool}
@@ -7,6 +7,7 @@ use mathlib.Core.List.{List, [], _++_, _∷_}
 use Rattle.basis.specs.Choice.{either, pick}
 use Rattle.basis.specs.Count.{every}
 use Rattle.queue.specs.declared.Queue.{Queue}
+use Rattle.queue.specs.declared.Removal.{Removal}
 
 -- the entries, the oldest first
 abbrev pub entries : Queue → List ℕ
@@ -30,6 +31,15 @@ rest (x ∷ l) = l
 unfoldable pub others : ℕ → List ℕ → List ℕ
 others v [] = []
 others v (x ∷ l) = pick (eqb x v) (others v l) (x ∷ others v l)
+
+-- how many entries are v's (A8)
+unfoldable pub entriesOf : ℕ → List ℕ → ℕ
+entriesOf v [] = 0
+entriesOf v (x ∷ l) = pick (eqb x v) (suc (entriesOf v l)) (entriesOf v l)
+
+-- the queue that the entries of v have left, and how many those were (D14, D18, A8)
+abbrev pub removal : ℕ → Queue → Removal
+removal v q = record { queue = ofList (others v (entries q)); count = entriesOf v (entries q) }
 
 -- v joins the end; a queue with all places taken stays as it is (D20, D29)
 unfoldable pub pushed : ℕ → Queue → Queue

@@ -5,13 +5,19 @@ ghost use mathlib.Core.Bool.{false, true};
 ghost use mathlib.Core.List.{[]};
 ghost use mathlib.Core.Path.{_≡_};
 ghost use Rattle.basis.specs.Choice.{pick};
-ghost use Rattle.queue.specs.Entries.{entries, frontOf, ofList, others, paddedOf, pushed, rest};
+ghost use Rattle.queue.specs.Entries.{entries, frontOf, ofList, others, paddedOf, pushed, removal, rest};
 
 // A queue: its first `len` places are its entries.
 #[repr(C)]
 pub struct Queue {
     pub items: [u8; 16], // VM numbers
     pub len: u8, // how many of them are entries
+}
+
+// A queue that a VM's entries have left, and how many those were (A8).
+pub struct Removal {
+    pub queue: Queue,
+    pub count: u8,
 }
 
 impl Queue {
@@ -84,8 +90,21 @@ impl Queue {
         self
     }
 
-    // Without the entries for v, the others in their order (D14, D18).
-    pub fn without(self, v: u8) -> Queue
+    // Without the entries for v, and how many those were (D14, D18): as many as it is shorter.
+    pub fn without(self, v: u8) -> Removal
+        ensures { λ r. ⌜ r ≡ removal v self ⌝ }
+    {
+        let rest = self.others(v);
+        let before = entry_count(self.len);
+        let count = before - rest.len;
+        Removal {
+            queue: rest,
+            count: count,
+        }
+    }
+
+    // The entries that are not for v, in their order.
+    fn others(self, v: u8) -> Queue
         ensures { λ r. ⌜ r ≡ ofList (others v (entries self)) ⌝ }
     {
         let items = self.items;
@@ -128,6 +147,16 @@ fn moved_up(k: u8, n: u8, next: u8) -> u8
     ensures { λ r. ⌜ r ≡ pick (ltb (k + 1) n) next 0 ⌝ }
 {
     if k + 1 < n { next } else { 0 }
+}
+
+// How many entries a queue has whose `len` is n: no more than it has places.
+fn entry_count(n: u8) -> u8
+    ensures { λ r. ⌜ r ≡ min n 16 ⌝ }
+{
+    if Queue::PLACES < n {
+        return Queue::PLACES;
+    }
+    n
 }
 
 // How many entries are left of n when one has left; no more than 16 are entries.

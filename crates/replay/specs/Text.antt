@@ -25,9 +25,9 @@ whereText running at = pick (eqb running 255) (dash 32) (address at 32)
 unfoldable pub runsText : ℕ → ℕ → ℕ → List ℕ
 runsText running at delivered = choice running 32 ++ (whereText running at ++ choice delivered 32)
 
--- N3: the event's number, the refusal; the VM that runs, its address, what was delivered; the notice, the result
+-- N3: the event's number, the refusal; the VM that runs, its address, what was delivered; the notice, the result; the number removed
 unfoldable pub lineText : ℕ → Answer → List ℕ
-lineText n a = two n (a .refusal) 32 ++ (runsText (a .running) (a .address) (a .delivered) ++ two (a .notice .kind) (a .result) 10)
+lineText n a = two n (a .refusal) 32 ++ (runsText (a .running) (a .address) (a .delivered) ++ (two (a .notice .kind) (a .result) 32 ++ number (a .removed) 10))
 
 -- `notice VM CODE DATA`
 unfoldable pub noticeText : Notice → List ℕ

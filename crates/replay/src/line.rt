@@ -48,13 +48,14 @@ pub fn put_two(b: &mut [u8], at: usize, m: u32, n: u32, after: u8) -> usize
 }
 
 pub fn put_line(b: &mut [u8], at: usize, n: u32, a: Answer) -> usize
-    requires { ⌜ at + 75 ≤ length (now b) ⌝ }
-    ensures { λ r. ⌜ Puts (lineText n a) (now (b .entry)) at (now (b .exit)) r × (r ≤ at + 75) ⌝ }
+    requires { ⌜ at + 86 ≤ length (now b) ⌝ }
+    ensures { λ r. ⌜ Puts (lineText n a) (now (b .entry)) at (now (b .exit)) r × (r ≤ at + 86) ⌝ }
 {
     let told = a.notice;
     let a1 = put_two(b, at, n, a.refusal as u32, 32);
     let a2 = put_runs(b, a1, a.running, a.address, a.delivered);
-    put_two(b, a2, told.kind as u32, a.result as u32, 10)
+    let a3 = put_two(b, a2, told.kind as u32, a.result as u32, 32);
+    text::put_number(b, a3, a.removed as u32, 10)
 }
 
 pub fn put_refused(b: &mut [u8], at: usize, fault: u8, offset: u32) -> usize

@@ -23,10 +23,11 @@ pub refused-number : (c : Core) (n : ℕ) → refused c n .answer .refusal ≡ n
 unfolding refused
 refused-number c n = refl
 
--- R3: no delivery, no notice, result 0
-pub refused-quiet : (c : Core) (n : ℕ) → (refused c n .answer .delivered ≡ nobody) × (refused c n .answer .notice ≡ noNotice) × (refused c n .answer .result ≡ 0)
+-- R3: no delivery, no notice, result 0, nothing removed
+pub refused-quiet : (c : Core) (n : ℕ)
+    → (refused c n .answer .delivered ≡ nobody) × (refused c n .answer .notice ≡ noNotice) × (refused c n .answer .result ≡ 0) × (refused c n .answer .removed ≡ 0)
 unfolding refused
-refused-quiet c n = (refl, refl, refl)
+refused-quiet c n = (refl, refl, refl, refl)
 
 -- R3: the running VM and its address as they stand
 pub refused-shows : (c : Core) (n : ℕ) → (n ≡ 1 → ⊥) → (refused c n .answer .running ≡ c .running) × (refused c n .answer .address ≡ addressOf c)
@@ -86,9 +87,9 @@ step-same c e h = ap (λ s. s .core) (step-refused c e h) ∙ refused-core c (re
 
 -- R3: the answer of a refusal
 pub step-quiet : (c : Core) (e : Event) → (refusalOf c e ≡ 0 → ⊥)
-    → (stepOf c e .answer .delivered ≡ nobody) × (stepOf c e .answer .notice ≡ noNotice) × (stepOf c e .answer .result ≡ 0)
+    → (stepOf c e .answer .delivered ≡ nobody) × (stepOf c e .answer .notice ≡ noNotice) × (stepOf c e .answer .result ≡ 0) × (stepOf c e .answer .removed ≡ 0)
 step-quiet c e h =
-    subst (λ (s : Stepped). (s .answer .delivered ≡ nobody) × (s .answer .notice ≡ noNotice) × (s .answer .result ≡ 0)) (sym (step-refused c e h)) (refused-quiet c (refusalOf c e))
+    subst (λ (s : Stepped). (s .answer .delivered ≡ nobody) × (s .answer .notice ≡ noNotice) × (s .answer .result ≡ 0) × (s .answer .removed ≡ 0)) (sym (step-refused c e h)) (refused-quiet c (refusalOf c e))
 
 -- A2 and R3: on a sound state the answer of every event, refused or done, shows the VM that now runs and its address
 pub step-shows : (c : Core) (e : Event) → sound c ≡ true

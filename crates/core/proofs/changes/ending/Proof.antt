@@ -13,7 +13,7 @@ without-requires-2 : tie.Need-without-requires-2
 without-requires-2 c κs = search needs
 
 returns : tie.Need-returns
-returns c = rw (c .without2 .ensures, c .before .without .ensures, c .before .before .ended .ensures)
+returns c = rw (c .without2 .ensures, c .before .before .without .ensures, c .before .before .before .ended .ensures)
 
 pub ending-spec : {M : Type 1} → statement M
 ending-spec = tie.close (tie.spec ended-requires without-requires without-requires-2 returns)

@@ -1,4 +1,4 @@
--- The seven parts.
+-- The eight parts.
 use borrow.Author.Needs.{needs}
 use native.Mathlib.Omega.{arith}
 use Rattle.replay.proofs.line.put_line.Statement.{statement}
@@ -24,12 +24,18 @@ cast-put-two-3 c = search needs
 put-two-requires-2 : tie.Need-put-two-requires-2
 put-two-requires-2 c κs = search needs
 
+cast-put-number : tie.Need-cast-put-number
+cast-put-number c = search needs
+
+put-number-requires : tie.Need-put-number-requires
+put-number-requires c κs = search needs
+
 same-length : tie.Need-same-length
 same-length c = search needs
 
 returns : tie.Need-returns
 unfolding lineText
-returns c = (puts-then (c .before .before .before .before .before .before .before .before .before .before .before .before .put-two .ensures .0) (puts-then (c .before .before .before .before .before .before .before .before .put-runs .ensures .0) (c .before .before .put-two2 .ensures .0)), omega (arith, c .before .before .before .before .before .before .before .before .before .before .before .before .put-two .ensures .1, c .before .before .before .before .before .before .before .before .put-runs .ensures .1, c .before .before .put-two2 .ensures .1))
+returns c = (puts-then (c .before .before .before .before .before .before .before .before .before .before .before .before .before .before .before .before .before .put-two .ensures .0) (puts-then (c .before .before .before .before .before .before .before .before .before .before .before .before .before .put-runs .ensures .0) (puts-then (c .before .before .before .before .before .before .before .put-two2 .ensures .0) (c .before .before .put-number .ensures .0))), omega (arith, c .before .before .before .before .before .before .before .before .before .before .before .before .before .before .before .before .before .put-two .ensures .1, c .before .before .before .before .before .before .before .before .before .before .before .before .before .put-runs .ensures .1, c .before .before .before .before .before .before .before .put-two2 .ensures .1, c .before .before .put-number .ensures .1))
 
 pub put-line-spec : {M : Type 1} → statement M
 put-line-spec =
@@ -41,5 +47,7 @@ put-line-spec =
     cast-put-two-2
     cast-put-two-3
     put-two-requires-2
+    cast-put-number
+    put-number-requires
     same-length
     returns)
