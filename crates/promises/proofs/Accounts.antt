@@ -8,7 +8,6 @@ use mathlib.Core.Path.{ap, refl, subst, sym, _∙_, _≡_}
 use native.Mathlib.Omega.{arith}
 use Rattle.basis.proofs.Laws.{both-left, both-right, false-true}
 use Rattle.basis.specs.Choice.{pick}
-use Rattle.config.proofs.Legality.{legal-is}
 use Rattle.config.specs.Sizes.{isSpare}
 use Rattle.config.specs.declared.Config.{Config}
 use Rattle.core.specs.Events.{stepOf}
@@ -18,9 +17,9 @@ use Rattle.core.specs.declared.Event.the-variants.{Call, Extra, Fault, Restart,
 use Rattle.core.specs.declared.Event.{Event}
 use Rattle.promises.proofs.Facts.{eqb-same, num, times-cons, times-nil}
 use Rattle.promises.proofs.Lawful.{Backs, Lawful, lawful, runnerBy}
-use Rattle.promises.proofs.Steps.{Reached, at-fresh, step-at}
+use Rattle.promises.proofs.Steps.{Reached, at-fresh, step-at, vm-small}
 use Rattle.promises.specs.Demands.{Accounts}
-use Rattle.promises.specs.History.{Behaviour, Given, Moment, moment, moments, stateAfter, ticking, ticksAfter, times, went}
+use Rattle.promises.specs.History.{Behaviour, Moment, moment, moments, stateAfter, ticking, ticksAfter, times, went}
 use Rattle.promises.specs.Moments.{asks, handed, isRequest, naming, runs, spare, tableAt}
 use Rattle.promises.specs.Queueing.{Add, Effect, Keep, Remove, Take, affected, effect, effectBy, ofService, removedFrom, removedIn, removes}
 use Rattle.queue.specs.Entries.{entries, entriesOf, frontOf, others, rest}
@@ -112,23 +111,23 @@ isAdd v (Remove w) = false
 asks-is : (g : Config) (v : ℕ) (m : Moment) → Lawful g m → num (asks v m) ≡ num (isAdd v (effect g m))
 asks-is g v m l = go (asks v m) refl
   where
-    back : (f : Effect) → effect g m ≡ f → Backs g m f → asks v m ≡ false → 0 ≡ num (isAdd v f)
-    back Keep i k a = refl
-    back Take i k a = refl
-    back (Add w) i k a = by (eqb w v) refl
+    back : (f : Effect) → Backs g m f → asks v m ≡ false → 0 ≡ num (isAdd v f)
+    back Keep k a = refl
+    back Take k a = refl
+    back (Add w) k a = by (eqb w v) refl
       where
         by : (b : Bool) → eqb w v ≡ b → 0 ≡ num b
         by true e = false-true (sym a ∙ subst (λ (x : ℕ). asks x m ≡ true) (eqb-true w v e) (k .1))
         by false e = refl
-    back (Remove w) i k a = refl
+    back (Remove w) k a = refl
 
     go : (b : Bool) → asks v m ≡ b → num b ≡ num (isAdd v (effect g m))
     go true a = rw (asks-adds g v m a, eqb-same v)
-    go false a = back (effect g m) refl (l .backed) a
+    go false a = back (effect g m) (l .backed) a
 
 -- ---- whom a spare tick runs
 
-pub runner-spare : (c : Core) (o : ℕ) → isSpare o ≡ true → runnerBy c o ≡ frontOf (entries (c .queue))
+runner-spare : (c : Core) (o : ℕ) → isSpare o ≡ true → runnerBy c o ≡ frontOf (entries (c .queue))
 unfolding runnerOf
 runner-spare c o e = rw e
 
@@ -206,9 +205,6 @@ module _ (g : Config) (b : Behaviour) (Inv : ℕ → Core → Type 0)
       omega (arith, h, n, times-cons (handed g v) m ms, times-cons (asks v) m ms, removed-cons g v m ms)
 
 -- ---- ours
-
-pub vm-small : (g : Config) → Given g → (v : ℕ) → v < g .count → v < 8
-vm-small g d v h = omega (arith, h, legal-is g (d .legal) .vms .1)
 
 none-fresh : (g : Config) (v : ℕ) → entriesOf v (entries (freshCore g .queue)) ≡ 0
 unfolding entriesOf

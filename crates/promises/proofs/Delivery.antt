@@ -29,9 +29,8 @@ use Rattle.guest.specs.declared.Delivery.{Delivery}
 use Rattle.guest.specs.declared.Found.the-variants.{At, Nothing}
 use Rattle.guest.specs.declared.Status.{Status}
 use Rattle.guest.specs.declared.Vm.{Vm}
-use Rattle.promises.proofs.Accounts.{vm-small}
 use Rattle.promises.proofs.Starting.{count-few}
-use Rattle.promises.proofs.Steps.{Reached, ours-at}
+use Rattle.promises.proofs.Steps.{Reached, ours-at, vm-small}
 use Rattle.promises.proofs.Ticks.{passed-address, passed-status, passedOf, tick-enters, tick-number, tick-passes, tick-silent}
 use Rattle.promises.specs.Demands.{Delivered, Delivers, DeliversAtCall, DeliversAtTick, DeliversBy, DeliversOf, Enters, GoesOn, Offer, callDelivers, dueOf, tickOffer}
 use Rattle.promises.specs.History.{Given, Moment, moment, momentOf, stateOf, ticksOf}

@@ -13,10 +13,10 @@ use Rattle.core.specs.Events.{stepOf}
 use Rattle.core.specs.State.{readyAt}
 use Rattle.core.specs.declared.Core.{Core}
 use Rattle.core.specs.declared.Event.{Event}
-use Rattle.promises.proofs.Accounts.{balance, front-rest, handed-front, spare-takes, tick-of, vm-small}
+use Rattle.promises.proofs.Accounts.{balance, front-rest, handed-front, spare-takes, tick-of}
 use Rattle.promises.proofs.Facts.{num, times-cons, times-nil}
 use Rattle.promises.proofs.Lawful.{Lawful, lawful, runnerBy}
-use Rattle.promises.proofs.Steps.{Reached, each-of, ours-at, step-at}
+use Rattle.promises.proofs.Steps.{Reached, each-of, ours-at, step-at, vm-small}
 use Rattle.promises.specs.Demands.{Slices}
 use Rattle.promises.specs.History.{Behaviour, Each, Moment, moment, moments, stateOf, ticking, ticksAfter, ticksOf, times}
 use Rattle.promises.specs.Moments.{asks, handed, naming, ranIn, runs, spare, tableAt}

@@ -1,9 +1,10 @@
 -- What holds of every state of a run: its configuration, its lists, its place in the table by the count of ticks.
-use Prim.Native.Nat.{ℕ, _+_}
+use Prim.Native.Nat.{ℕ, _+_, _<_}
 use borrow.Author.Tests.{ne-eqb}
 use mathlib.Core.List.{List, [], _∷_}
 use mathlib.Core.Path.{ap, refl, subst, sym, _∙_, _≡_}
 use native.Mathlib.Numerals.{add-one}
+use native.Mathlib.Omega.{arith}
 use Rattle.basis.specs.Choice.{pick}
 use Rattle.config.proofs.Legality.{legal-is}
 use Rattle.config.specs.Sizes.{ownerAt}
@@ -29,6 +30,9 @@ pub record Reached (g : Config) (k : ℕ) (c : Core) : Type 0 where
   pub same : c .config ≡ g
   pub shaped : Shaped c
   pub stands : Stands g k (c .clock)
+
+pub vm-small : (g : Config) → Given g → (v : ℕ) → v < g .count → v < 8
+vm-small g d v h = omega (arith, h, legal-is g (d .legal) .vms .1)
 
 pub at-fresh : (g : Config) → Given g → Reached g 0 (freshCore g)
 at-fresh g d = record { same = refl; shaped = shaped-fresh g (d .sized); stands = refl }

@@ -13,10 +13,10 @@ use Rattle.config.specs.declared.Config.{Config}
 use Rattle.core.specs.Events.{stepOf}
 use Rattle.core.specs.declared.Core.{Core}
 use Rattle.core.specs.declared.Event.{Event}
-use Rattle.promises.proofs.Accounts.{asks-adds, spare-front, vm-small}
+use Rattle.promises.proofs.Accounts.{asks-adds, spare-front}
 use Rattle.promises.proofs.Facts.{num, times-cons, times-nil}
 use Rattle.promises.proofs.Lawful.{Backs, Lawful, lawful}
-use Rattle.promises.proofs.Steps.{Reached, each-of, ours-at, step-at}
+use Rattle.promises.proofs.Steps.{Reached, each-of, ours-at, step-at, vm-small}
 use Rattle.promises.specs.Demands.{Waiting}
 use Rattle.promises.specs.History.{Behaviour, Moment, moment, moments, next, ticksAfter, times}
 use Rattle.promises.specs.Moments.{ends, runs, spare}
