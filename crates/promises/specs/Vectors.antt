@@ -99,9 +99,9 @@ ranShown s = s .answer .running ∷ vmAt (s .core) 0 .ran ∷ vmAt (s .core) 0 .
 abbrev pub removedBy : Moment → List ℕ
 removedBy m = m .answer .removed ∷ entries (m .after .queue)
 
--- the same for e, where a queue of 4 holds 0, 1, 0
-unfoldable pub removedShown : Event → List ℕ
-removedShown e = getD (map removedBy (history stepOf (example 4) (Start ∷ Tick 0 ∷ Extra 0 ∷ Extra 1 ∷ Call 4 0 0x1010 ∷ e ∷ []))) 5 []
+-- the same for event n of the run of P12, counted from 1, of which e is the sixth
+unfoldable pub removedShown : ℕ → Event → List ℕ
+removedShown n e = getD (map removedBy (history stepOf (example 4) (Start ∷ Tick 0 ∷ Extra 0 ∷ Extra 1 ∷ Call 4 0 0x1010 ∷ e ∷ []))) (n - 1) []
 
 unfoldable pub vectors : List Vector
 vectors =
@@ -142,7 +142,7 @@ vectors =
     ∷ vector (InP 11) (ranShown (stepOf (ranState 4294967295) (Tick 0))) (0 ∷ 0 ∷ 0 ∷ [])
     ∷ record {
       rule = InP 12;
-      found = map removedShown (Stop 0 ∷ Restart 0 ∷ Fault 3 0 ∷ Call 3 0 0x1020 ∷ Call 2 32 0x1020 ∷ Call 5 0 0x1020 ∷ Stop 1 ∷ []);
-      says = (2 ∷ 1 ∷ []) ∷ (2 ∷ 1 ∷ []) ∷ (2 ∷ 1 ∷ []) ∷ (2 ∷ 1 ∷ []) ∷ (2 ∷ 1 ∷ []) ∷ (2 ∷ 1 ∷ []) ∷ (1 ∷ 0 ∷ 0 ∷ []) ∷ [];
+      found = removedShown 5 (Stop 0) ∷ map (removedShown 6) (Stop 0 ∷ Restart 0 ∷ Fault 3 0 ∷ Call 3 0 0x1020 ∷ Call 2 32 0x1020 ∷ Call 5 0 0x1020 ∷ Stop 1 ∷ []);
+      says = (0 ∷ 0 ∷ 1 ∷ 0 ∷ []) ∷ (2 ∷ 1 ∷ []) ∷ (2 ∷ 1 ∷ []) ∷ (2 ∷ 1 ∷ []) ∷ (2 ∷ 1 ∷ []) ∷ (2 ∷ 1 ∷ []) ∷ (2 ∷ 1 ∷ []) ∷ (1 ∷ 0 ∷ 0 ∷ []) ∷ [];
     }
     ∷ []
