@@ -84,9 +84,9 @@ pub fn failing(v: u8, vm: Vm, running: u8, queue: Queue, code: u8, detail: u32) 
 pub fn restarting(v: u8, entry: u32, running: u8, queue: Queue) -> Change
     ensures { λ r. ⌜ r ≡ restartingFrom running queue v entry ⌝ }
 {
-    let others = queue.without(v);
+    let cleared = queue.without(v);
     let none = notice(0, 0, 0, 0);
-    let rest = others.queue;
+    let rest = cleared.queue;
     Change {
         place: v,
         vm: Vm::started(entry),
@@ -95,7 +95,7 @@ pub fn restarting(v: u8, entry: u32, running: u8, queue: Queue) -> Change
         delivered: Answer::NOTHING,
         notice: none,
         result: 0,
-        removed: others.count,
+        removed: cleared.count,
     }
 }
 
