@@ -2,13 +2,15 @@
 
 use std::process::ExitCode;
 
+use twin::command_line::commands::{obey, USAGE};
+
 fn main() -> ExitCode {
     let words: Vec<String> = std::env::args().skip(1).collect();
-    match twin::commands::obey(&words) {
+    match obey(&words) {
         Ok(true) => ExitCode::SUCCESS,
         Ok(false) => ExitCode::FAILURE,
         Err(message) => {
-            eprint!("twin: {message}\n{}", if words.is_empty() { twin::commands::USAGE } else { "" });
+            eprint!("twin: {message}\n{}", if words.is_empty() { USAGE } else { "" });
             ExitCode::FAILURE
         }
     }

@@ -7,7 +7,7 @@ use std::io::Write;
 use std::process::{Command, Stdio};
 
 use common::{folder, shown, twin, worked_case, worked_lines};
-use twin::text_print::text_of;
+use twin::readable_text::print::text_of;
 
 #[test]
 fn pack_run_state_and_unpack() {
@@ -90,7 +90,7 @@ fn wrong_arguments_are_named() {
 fn a_generated_case_can_be_made_again() {
     let place = folder("case");
     assert_eq!(twin(&["case", "--seed", "3", "--number", "500", shown(&place)]).0, Some(0));
-    let maker = twin::generate_case::CaseMaker::new(3);
+    let maker = twin::generate::case::CaseMaker::new(3);
     assert_eq!(fs::read(place.join("config.bin")).expect("made"), maker.case(500).image);
     assert_eq!(fs::read(place.join("events.bin")).expect("made"), maker.case(500).log);
     let expected = fs::read_to_string(place.join("expected")).expect("made");

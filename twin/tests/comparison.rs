@@ -3,14 +3,14 @@
 use std::path::PathBuf;
 use std::process::Command;
 
-use twin::coverage::{never_reached, Coverage};
-use twin::difference::first_parting;
-use twin::edge_reports::edge_reports;
-use twin::flaw::Flaw;
-use twin::generate_case::CaseMaker;
-use twin::report_coverage::ReportCoverage;
-use twin::report_folder::ReportFolder;
-use twin::selftest::selftest;
+use twin::compare::difference::first_parting;
+use twin::compare::selftest::selftest;
+use twin::core::flaw::Flaw;
+use twin::coverage::cases::{never_reached, Coverage};
+use twin::coverage::reports::ReportCoverage;
+use twin::edges::reports::edge_reports;
+use twin::generate::case::CaseMaker;
+use twin::report::folder::ReportFolder;
 
 const TWIN: &str = env!("CARGO_BIN_EXE_twin");
 

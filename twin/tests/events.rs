@@ -3,14 +3,14 @@
 mod common;
 
 use common::{call, core_of, core_with, tick, worked_config, write};
-use twin::config::Config;
+use twin::core::config::Config;
+use twin::core::event::{Answer, Event, Notice};
+use twin::core::flaw::Flaw;
+use twin::core::state::{Standing, Vm, ENABLED, PENDING, RESUME_ADDRESS, TICKS_WHILE_RUNNING};
 use twin::core::Core;
-use twin::event::{Answer, Event, Notice};
-use twin::flaw::Flaw;
-use twin::generate_image::legal_config;
-use twin::generate_values::any_event;
-use twin::random::Random;
-use twin::state::{Standing, Vm, ENABLED, PENDING, RESUME_ADDRESS, TICKS_WHILE_RUNNING};
+use twin::generate::image::legal_config;
+use twin::generate::random::Random;
+use twin::generate::values::any_event;
 
 fn with_queue(size: u8) -> Config {
     let mut config = worked_config();

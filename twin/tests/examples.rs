@@ -6,11 +6,11 @@ use std::fs;
 use std::path::PathBuf;
 
 use common::{worked_case, worked_lines};
-use twin::flaw::Flaw;
-use twin::frames::Case;
-use twin::report_folder::ReportFolder;
-use twin::run_text::{run_text, Detail};
-use twin::text_parse::{case_of, report_folder_of};
+use twin::core::flaw::Flaw;
+use twin::readable_text::parse::{case_of, report_folder_of};
+use twin::report::folder::ReportFolder;
+use twin::run::frames::Case;
+use twin::run::text::{run_text, Detail};
 
 const NAMES: [&str; 5] = ["worked", "stopped-model", "extra-time", "thrown-away", "refused-image"];
 

@@ -3,9 +3,9 @@
 mod common;
 
 use common::worked_case;
-use twin::config::Config;
-use twin::flaw::Flaw;
-use twin::image_read::{read_image, ImageFault};
+use twin::core::config::Config;
+use twin::core::flaw::Flaw;
+use twin::image::read::{read_image, ImageFault};
 
 fn read(image: &[u8]) -> Result<Config, ImageFault> {
     read_image(image, Flaw::None)

@@ -3,13 +3,13 @@
 mod common;
 
 use common::worked_config;
-use twin::config::{Config, Slot};
-use twin::flaw::Flaw;
-use twin::generate_image::legal_config;
-use twin::image_read::read_image;
-use twin::image_write::write_image;
-use twin::limits::MAX_IMAGE_BYTES;
-use twin::random::Random;
+use twin::core::config::{Config, Slot};
+use twin::core::flaw::Flaw;
+use twin::core::limits::MAX_IMAGE_BYTES;
+use twin::generate::image::legal_config;
+use twin::generate::random::Random;
+use twin::image::read::read_image;
+use twin::image::write::write_image;
 
 fn refusal(config: &Config, length: usize) -> u8 {
     let mut buffer = vec![0x5a; length];

@@ -3,11 +3,12 @@
 mod common;
 
 use common::{call, tick, worked_case, write};
-use twin::event::Event;
-use twin::flaw::Flaw;
-use twin::log_codec::{event_body_length, log_of, read_record, Record};
-use twin::random::Random;
-use twin::run_text::{run_text, Detail};
+use twin::core::event::Event;
+use twin::core::flaw::Flaw;
+use twin::generate::random::Random;
+use twin::log::read::{event_body_length, read_record, Record};
+use twin::log::write::log_of;
+use twin::run::text::{run_text, Detail};
 
 fn printed(image: &[u8], log: &[u8]) -> String {
     String::from_utf8(run_text(image, log, Detail::Lines, Flaw::None)).expect("ascii")

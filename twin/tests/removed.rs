@@ -3,19 +3,19 @@
 mod common;
 
 use common::{call, core_of, tick, worked_config, write};
-use twin::config::{Config, SPARE};
+use twin::core::config::{Config, SPARE};
+use twin::core::event::{Answer, Event, Notice};
+use twin::core::flaw::Flaw;
+use twin::core::limits::{MAX_LOG_BYTES, MAX_VMS};
+use twin::core::state::Queue;
 use twin::core::Core;
-use twin::edge_cases::small;
-use twin::event::{Answer, Event, Notice};
-use twin::flaw::Flaw;
-use twin::frames::Case;
-use twin::generate_case::CaseMaker;
-use twin::image_read::read_image;
-use twin::limits::{MAX_LOG_BYTES, MAX_VMS};
-use twin::log_codec::{read_record, Record};
-use twin::report::table_ticks;
-use twin::run_text::{many_text, run_text, Detail};
-use twin::state::Queue;
+use twin::edges::cases::small;
+use twin::generate::case::CaseMaker;
+use twin::image::read::read_image;
+use twin::log::read::{read_record, Record};
+use twin::report::figures::table_ticks;
+use twin::run::frames::Case;
+use twin::run::text::{many_text, run_text, Detail};
 
 /// The six kinds of events that remove entries, for a VM 0 that runs.
 const REMOVING: [Event; 6] = [

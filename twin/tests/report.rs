@@ -3,16 +3,17 @@
 mod common;
 
 use common::{call, tick, worked_case, worked_config};
-use twin::config::{Config, Slot, VmPlace, SPARE};
+use twin::core::config::{Config, Slot, VmPlace, SPARE};
+use twin::core::event::Event;
+use twin::core::flaw::Flaw;
 use twin::core::Core;
-use twin::event::Event;
-use twin::flaw::Flaw;
-use twin::generate_report::generated_folder;
-use twin::image_read::read_image;
-use twin::image_write::image_bytes;
-use twin::log_codec::{log_of, read_record, Record};
-use twin::report::{figures_of, report_text, table_ticks, Figures};
-use twin::report_folder::ReportFolder;
+use twin::generate::report::generated_folder;
+use twin::image::read::read_image;
+use twin::image::write::image_bytes;
+use twin::log::read::{read_record, Record};
+use twin::log::write::log_of;
+use twin::report::figures::{figures_of, report_text, table_ticks, Figures};
+use twin::report::folder::ReportFolder;
 
 const WORKED: &str = "0 2 1 1\n1 1 0 0\nidle 1\nticks 5\n";
 const NOTHING: &str = "0 0 0 0\n1 0 0 0\nidle 0\nticks 0\n";

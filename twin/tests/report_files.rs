@@ -5,11 +5,11 @@ mod common;
 use std::fs;
 
 use common::{folder, shown, twin, worked_case};
-use twin::flaw::Flaw;
-use twin::generate_report::generated_folder;
-use twin::report_folder::{log_name, LogFile, ReportFolder};
-use twin::text_parse::report_folder_of;
-use twin::text_print::report_folder_text;
+use twin::core::flaw::Flaw;
+use twin::generate::report::generated_folder;
+use twin::readable_text::parse::report_folder_of;
+use twin::readable_text::print::report_folder_text;
+use twin::report::folder::{log_name, LogFile, ReportFolder};
 
 const WORKED: &str = "0 2 1 1\n1 1 0 0\nidle 1\nticks 5\n";
 const TWICE: &str = "0 4 2 2\n1 2 0 0\nidle 2\nticks 10\n";

@@ -3,10 +3,10 @@
 mod common;
 
 use common::{core_with, tick, worked_config};
+use twin::core::event::{Answer, Event};
+use twin::core::flaw::Flaw;
+use twin::core::state::{Standing, Vm};
 use twin::core::Core;
-use twin::event::{Answer, Event};
-use twin::flaw::Flaw;
-use twin::state::{Standing, Vm};
 
 /// What is broken, and how.
 type Change = (&'static str, fn(&mut Core));

@@ -3,9 +3,9 @@
 mod common;
 
 use common::{worked_case, worked_lines};
-use twin::flaw::Flaw;
-use twin::frames::{answer_stream, frame_of, read_frame, Case, Frame};
-use twin::run_text::many_text;
+use twin::core::flaw::Flaw;
+use twin::run::frames::{answer_stream, frame_of, read_frame, Case, Frame};
+use twin::run::text::many_text;
 
 fn answer(stream: &[u8]) -> Vec<u8> {
     let mut output = Vec::new();

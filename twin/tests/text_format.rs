@@ -3,10 +3,10 @@
 mod common;
 
 use common::worked_case;
-use twin::frames::Case;
-use twin::generate_case::CaseMaker;
-use twin::text_parse::case_of;
-use twin::text_print::text_of;
+use twin::generate::case::CaseMaker;
+use twin::readable_text::parse::case_of;
+use twin::readable_text::print::text_of;
+use twin::run::frames::Case;
 
 const WORKED: &str = "\
 core vms 2 queue 1

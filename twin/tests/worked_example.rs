@@ -3,13 +3,13 @@
 mod common;
 
 use common::{worked_case, worked_events, worked_lines};
+use twin::core::event::Event;
+use twin::core::flaw::Flaw;
+use twin::core::state::Standing;
 use twin::core::Core;
-use twin::event::Event;
-use twin::flaw::Flaw;
-use twin::image_read::read_image;
-use twin::image_write::write_image;
-use twin::run_text::{run_text, Detail};
-use twin::state::Standing;
+use twin::image::read::read_image;
+use twin::image::write::write_image;
+use twin::run::text::{run_text, Detail};
 
 /// The core after so many events of the example.
 fn core_after(count: usize) -> Core {

@@ -5,13 +5,13 @@ use std::fs;
 use std::path::{Path, PathBuf};
 use std::process::Command;
 
-use twin::config::{Config, Slot, VmPlace, SPARE};
+use twin::core::config::{Config, Slot, VmPlace, SPARE};
+use twin::core::event::Event;
+use twin::core::flaw::Flaw;
 use twin::core::Core;
-use twin::event::Event;
-use twin::flaw::Flaw;
-use twin::frames::Case;
-use twin::image_write::image_bytes;
-use twin::log_codec::log_of;
+use twin::image::write::image_bytes;
+use twin::log::write::log_of;
+use twin::run::frames::Case;
 
 /// Two VMs, queue of one; VM 0 for two ticks, VM 1 for one, a spare tick.
 pub fn worked_config() -> Config {

@@ -1,0 +1,138 @@
+//! The whole comparison: batches through `many`, torn streams, files, reports, and the count of what was
+//! reached.
+
+use std::path::PathBuf;
+
+use crate::compare::child::CommandLine;
+use crate::compare::files::{compare_files, special_files, FileCase, FileProgram, Workplace};
+use crate::compare::reports::{compare_reports, ReportPlan};
+use crate::compare::stream::{compare_batch, compare_stream, torn_streams, Trouble};
+use crate::coverage::cases::{never_reached, Coverage};
+use crate::coverage::reports::ReportCoverage;
+use crate::generate::case::CaseMaker;
+use crate::run::frames::Case;
+
+/// How many cases go through one process of `many`.
+const BATCH: usize = 500;
+
+/// What to compare.
+pub struct Plan {
+    pub seed: u64,
+    pub cases: usize,
+    /// How many of the cases also go through the programs that read files.
+    pub files: usize,
+    pub many: CommandLine,
+    pub file_programs: Vec<FileProgram>,
+    pub report: Option<ReportPlan>,
+    pub keep: PathBuf,
+}
+
+/// Compares everything. Answers the text for the reader, and whether all is well.
+pub fn compare(plan: &Plan) -> (String, bool) {
+    let maker = CaseMaker::new(plan.seed);
+    let mut coverage = Coverage::default();
+    let compared = compare_streams(plan, &maker, &mut coverage).and_then(|()| compare_folders(plan, &maker));
+    match compared {
+        Err(Trouble::Failure(message)) => (format!("twin: {message}\n"), false),
+        Err(Trouble::Difference(difference)) => {
+            let kept = match difference.keep(&plan.keep, plan.seed) {
+                Ok(folder) => format!("  kept in {}\n", folder.display()),
+                Err(error) => format!("  cannot keep the files in {}: {error}\n", plan.keep.display()),
+            };
+            (format!("{}{kept}", difference.report(plan.seed)), false)
+        }
+        Ok(reports) => summary(plan, &maker, &coverage, reports.as_ref()),
+    }
+}
+
+fn compare_streams(plan: &Plan, maker: &CaseMaker, coverage: &mut Coverage) -> Result<(), Trouble> {
+    for first in (0..plan.cases).step_by(BATCH) {
+        let last = plan.cases.min(first + BATCH);
+        let cases: Vec<Case> = (first..last).map(|number| maker.case(number)).collect();
+        for case in &cases {
+            coverage.observe(case);
+        }
+        compare_batch(&plan.many, first, &cases)?;
+    }
+    let whole = maker.case(2);
+    for stream in torn_streams(&whole) {
+        compare_stream(&plan.many, &stream, &whole)?;
+    }
+    Ok(())
+}
+
+/// The programs that read files. Answers what the reports reached, if they are compared.
+fn compare_folders(plan: &Plan, maker: &CaseMaker) -> Result<Option<ReportCoverage>, Trouble> {
+    let place = Workplace::new();
+    let place =
+        place.map_err(|error| Trouble::Failure(format!("cannot make a folder for files: {error}")))?;
+    compare_file_runs(plan, maker, &place)?;
+    plan.report.as_ref().map(|report| compare_reports(report, &place, plan.seed)).transpose()
+}
+
+fn compare_file_runs(plan: &Plan, maker: &CaseMaker, place: &Workplace) -> Result<(), Trouble> {
+    for program in &plan.file_programs {
+        for files in special_files(&maker.case(2)) {
+            compare_files(program, place, &files)?;
+        }
+        for number in file_numbers(plan) {
+            let Case { image, log } = maker.case(number);
+            let title = format!("case {number}");
+            compare_files(program, place, &FileCase { title, image: Some(image), log: Some(log) })?;
+        }
+    }
+    Ok(())
+}
+
+/// So many numbers, spread evenly over the cases.
+fn file_numbers(plan: &Plan) -> impl Iterator<Item = usize> + '_ {
+    let count = plan.files.min(plan.cases);
+    (0..count).map(move |index| index * plan.cases / count)
+}
+
+fn summary(
+    plan: &Plan,
+    maker: &CaseMaker,
+    coverage: &Coverage,
+    reports: Option<&ReportCoverage>,
+) -> (String, bool) {
+    let mut points = coverage.points();
+    points.extend(reports.map(ReportCoverage::points).unwrap_or_default());
+    let mut text = points_text(&points);
+    let missing = never_reached(points);
+    if !missing.is_empty() {
+        text += &format!("twin: {} points were never reached:\n", missing.len());
+        for point in missing {
+            text += &format!("  {point}\n");
+        }
+        if !coverage.missing().is_empty() {
+            text += &format!("twin: more cases are needed, at least {}\n", maker.edge_count());
+        }
+        return (text, false);
+    }
+    for program in &plan.file_programs {
+        let special = special_files(&maker.case(2)).len();
+        text += &format!("{}: {} runs with files\n", program.name, special + file_numbers(plan).count());
+    }
+    if let Some(ReportCoverage { folders, ticks, .. }) = reports {
+        text += &format!("report: {folders} folders, {ticks} ticks\n");
+    }
+    text += &format!("twin: {} cases, {} events, no difference\n", plan.cases, coverage.events);
+    (text, true)
+}
+
+/// The counts, several to a line.
+fn points_text(points: &[(String, u64)]) -> String {
+    let mut text = String::new();
+    let mut line = String::new();
+    for (name, count) in points {
+        let entry = format!("{name} = {count}; ");
+        if line.len() + entry.len() > 110 {
+            text += line.trim_end();
+            text.push('\n');
+            line.clear();
+        }
+        line += &entry;
+    }
+    text + line.trim_end() + "\n"
+}

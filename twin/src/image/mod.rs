@@ -1,0 +1,4 @@
+//! The bytes of a configuration image.
+
+pub mod read;
+pub mod write;

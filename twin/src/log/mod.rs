@@ -1,0 +1,4 @@
+//! The bytes of an event log.
+
+pub mod read;
+pub mod write;

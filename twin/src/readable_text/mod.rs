@@ -1,0 +1,4 @@
+//! The readable text: images and logs as lines, for `pack` and `unpack`.
+
+pub mod parse;
+pub mod print;
