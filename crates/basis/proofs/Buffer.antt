@@ -1,7 +1,7 @@
 -- Laws of bytes put into a buffer, and of records put one behind the other.
 use Prim.Native.Nat.{suc, zero, ℕ, _*_, _+_, _≤_}
 use lib.ListN.{drop, length, length-append, set}
-use lib.Seq.{length-sets, sets, sets-eq}
+use lib.Seq.{length-sets, set-out, sets, sets-eq}
 use mathlib.Core.List.{List, [], _++_, _∷_}
 use mathlib.Core.Path.{ap, refl, sym, _∙_, _≡_}
 use native.Mathlib.Nat.{suc-mul, zero-mul}
@@ -17,6 +17,10 @@ putAll-is l i (v ∷ vs) = rw (add-one i) (putAll-is (set l i v) (suc i) vs)
 
 pub putAll-length : (l : List ℕ) (i : ℕ) (vs : List ℕ) → length (putAll l i vs) ≡ length l
 putAll-length l i vs = ap length (putAll-is l i vs) ∙ length-sets l i vs
+
+-- past the end nothing is put
+pub put-past : (l : List ℕ) (i v : ℕ) → length l ≤ i → l ≡ set l i v
+put-past l i v h = sym (set-out l i v h)
 
 -- what is put at the front of a buffer that has room, followed by the rest of the buffer
 pub putAll-front : (l vs : List ℕ) → length vs ≤ length l → putAll l 0 vs ≡ vs ++ drop (length vs) l

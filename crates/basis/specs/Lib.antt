@@ -2,3 +2,4 @@ pub mod Choice
 pub mod Count
 pub mod Buffer
 pub mod Numbers
+pub mod Nobody

@@ -1,1 +1,3 @@
 pub mod Legality
+pub mod Values
+pub mod Unique

@@ -7,6 +7,7 @@ use mathlib.Core.Logic.{_⊎_}
 use mathlib.Core.Path.{_≡_}
 use Rattle.basis.specs.Choice.{both, either, pick}
 use Rattle.basis.specs.Count.{every, some}
+use Rattle.basis.specs.Nobody.{nobody}
 use Rattle.config.specs.declared.Config.{Config}
 
 -- what stands at place k
@@ -27,7 +28,7 @@ abbrev pub within : ℕ → ℕ → ℕ → Bool
 within a b n = both (leb a n) (leb n b)
 
 abbrev pub isSpare : ℕ → Bool
-isSpare owner = eqb owner 255
+isSpare owner = eqb owner nobody
 
 -- S1: 1 to 8 VMs
 abbrev pub vmsFit : Config → Bool
@@ -92,9 +93,9 @@ pub record Legal (c : Config) : Type 0 where
   pub vms : (1 ≤ c .count) × (c .count ≤ 8)
   pub queue : c .room ≤ 16
   pub table : (1 ≤ c .slots) × (c .slots ≤ 64)
-  pub spares : (k : ℕ) → k < c .slots → ownerAt c k ≡ 255 → durationAt c k ≡ 1
-  pub named : (k : ℕ) → k < c .slots → (ownerAt c k ≡ 255 → ⊥) → (1 ≤ durationAt c k) × (durationAt c k ≤ 1000)
-  pub owned : (k : ℕ) → k < c .slots → (ownerAt c k ≡ 255) ⊎ (ownerAt c k < c .count)
+  pub spares : (k : ℕ) → k < c .slots → ownerAt c k ≡ nobody → durationAt c k ≡ 1
+  pub named : (k : ℕ) → k < c .slots → (ownerAt c k ≡ nobody → ⊥) → (1 ≤ durationAt c k) × (durationAt c k ≤ 1000)
+  pub owned : (k : ℕ) → k < c .slots → (ownerAt c k ≡ nobody) ⊎ (ownerAt c k < c .count)
   pub served : (v : ℕ) → v < c .count → (k : ℕ) × (k < c .slots) × (ownerAt c k ≡ v)
   pub vms-empty : (k : ℕ) → c .count ≤ k → k < 8 → (entryAt c k ≡ 0) × (handlerAt c k ≡ 0)
   pub slots-empty : (k : ℕ) → c .slots ≤ k → k < 64 → (ownerAt c k ≡ 0) × (durationAt c k ≡ 0)

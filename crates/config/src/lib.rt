@@ -4,6 +4,7 @@ mod places;
 ghost use lib.Dec.{leb};
 ghost use mathlib.Core.Path.{_≡_};
 ghost use Rattle.basis.specs.Choice.{both};
+ghost use Rattle.config.specs.Ranges.{Typed};
 ghost use Rattle.config.specs.Sizes.{legal, vmsServed, within};
 
 // A configuration. It has 8 places for VMs and 64 for slots.
@@ -27,7 +28,7 @@ impl Config {
 
     pub const TICKS: u16 = 1000;
 
-    pub const SPARE: u8 = 255;
+    pub const SPARE: u8 = basis::NOBODY;
 
     // Whether the configuration keeps S1 to S7.
     pub fn legal(self) -> bool
@@ -59,6 +60,11 @@ impl Config {
         }
     }
 }
+
+// Each value of the struct is `Typed`: what the theorems about configurations ask for, every caller has.
+pub fn typed(c: Config)
+    ensures { λ _. ⌜ Typed c ⌝ }
+{}
 
 // S1, S2 and S3.
 fn counts_fit(count: u8, room: u8, slots: u8) -> bool

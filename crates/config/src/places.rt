@@ -1,5 +1,7 @@
 // The rules about the places of a configuration: S4 to S7. A loop leaves early only where it searches, so that the others compile to vector code.
 use crate::Config;
+use basis::tests::both;
+use basis::tests::either;
 ghost use Prim.Native.Nat.{_≤_};
 ghost use lib.Bits.{bitOr};
 ghost use lib.Dec.{eqb, ltb};
@@ -27,12 +29,6 @@ pub fn all_fit(
     let vms = vms_rest(count, entries, handlers);
     let rest = slots_rest(slots, owners, durations);
     both(fit, both(served, both(vms, rest)))
-}
-
-fn both(a: bool, b: bool) -> bool
-    ensures { λ r. ⌜ r ≡ both a b ⌝ }
-{
-    if a { b } else { false }
 }
 
 // S4 and S5, of the slots in use.
@@ -65,12 +61,6 @@ fn choice(on: bool, a: bool, b: bool) -> bool
     ensures { λ r. ⌜ r ≡ pick on a b ⌝ }
 {
     if on { a } else { b }
-}
-
-fn either(a: bool, b: bool) -> bool
-    ensures { λ r. ⌜ r ≡ either a b ⌝ }
-{
-    if a { true } else { b }
 }
 
 // S6: whether each VM has a slot.

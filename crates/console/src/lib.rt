@@ -14,8 +14,8 @@ pub fn read_file(path: &[u8], buf: &mut [u8]) -> usize
     n
 }
 
-// Prints the run of the log `events.bin` on the image `config.bin`, both in the current folder (N1). No more of them is
-// read than decides: 335 bytes of an image, 60,001 of a log.
+// Prints the run of the log `events.bin` on the image `config.bin`, both in the current folder (N1). At most 4,096 bytes of the
+// image and 65,536 of the log are read, which is more than decides: 335 of any image, 60,001 of any log.
 pub fn run_files(states: bool) {
     let mut image = io::buffer();
     let mut log = io::large_buffer();
@@ -58,7 +58,7 @@ pub fn print_case(image: &[u8], log: &[u8], out: &mut [u8]) -> bool {
 
 // Prints an image that is accepted, written again from its configuration. A buffer shorter than 2,048 bytes has no room for it.
 fn print_again(image: &[u8], out: &mut [u8]) -> bool {
-    let r = image::read(image);
+    let r = image_reader::read(image);
     if r.fault != 0 {
         return true;
     }
@@ -67,11 +67,11 @@ fn print_again(image: &[u8], out: &mut [u8]) -> bool {
     }
     let config = r.config;
     let mut again: [u8; 332] = [0; 332];
-    let w = image::write(config, &mut again);
+    let w = image_writer::write(config, &mut again);
     let size = w.size;
     if 332 < size {
         return true;
     }
-    let n = replay::put_image(out, &again[0..size]);
+    let n = lines::put_image(out, &again[0..size]);
     io::write_all(1, &out[0..n])
 }

@@ -1,10 +1,10 @@
 -- Laws of the soundness test's code: joined tests in another order, and readiness read off the standings.
 use Prim.Native.Nat.{ℕ, _≤_}
 use lib.Dec.{eqb, leb, ltb}
-use lib.ListN.{List·getD-eq-default, List·getD-map, getD, length}
+use lib.ListN.{List·getD-map, getD}
 use mathlib.Core.Bool.{Bool, false, not, true}
 use mathlib.Core.List.{List}
-use mathlib.Core.Path.{ap, refl, sym, _∙_, _≡_}
+use mathlib.Core.Path.{ap, sym, _∙_, _≡_}
 use Rattle.basis.proofs.Laws.{both-assoc, every-same}
 use Rattle.basis.specs.Choice.{both, either}
 use Rattle.basis.specs.Count.{every}
@@ -12,7 +12,7 @@ use Rattle.config.proofs.Legality.{legal-is}
 use Rattle.config.specs.Sizes.{isSpare, legal, within}
 use Rattle.config.specs.declared.Config.{Config}
 use Rattle.core.specs.Sound.{fewQueued, idleAtFirst, leftSound, noneReady, numbersKnown, placesEmpty, queuedReady, restSound, runnerNamed, runnerReady, slotSound, sound, standingsKnown, startSound}
-use Rattle.core.specs.Standings.{noneIn, readyIn}
+use Rattle.checks.specs.Standings.{noneIn, readyIn}
 use Rattle.core.specs.declared.Core.{Core}
 use Rattle.guest.specs.Record.{fresh, isReady}
 use Rattle.guest.specs.declared.Vm.{Vm}
@@ -20,32 +20,9 @@ use Rattle.queue.specs.Entries.{paddedOf, rest}
 use Rattle.table.specs.Position.{hasTicked, isStarted}
 use Rattle.vms.specs.Records.{restFresh, standingsOf}
 
-pub start-ticked : (t s i n q r : Bool) → t ≡ true → r ≡ s → r ≡ both (either t i) (either s (both n (both q (both i (not t)))))
-start-ticked t s i n q r e f = rw (e, f) (go s i n q)
-  where
-    go : (s i n q : Bool) → s ≡ either s (both n (both q (both i false)))
-    go true i n q = refl
-    go false true true true = refl
-    go false true true false = refl
-    go false true false q = refl
-    go false false true true = refl
-    go false false true false = refl
-    go false false false q = refl
-
-pub start-idle : (t s i n q a r : Bool) → t ≡ false → i ≡ true → s ≡ false → a ≡ n → r ≡ both a q → r ≡ both (either t i) (either s (both n (both q (both i (not t)))))
-start-idle t s i n q a r e f g h k = rw (e, f, g) (k ∙ rw h (go n q))
-  where
-    go : (n q : Bool) → both n q ≡ both n (both q true)
-    go true true = refl
-    go true false = refl
-    go false q = refl
-
 -- readiness by the list of standings
 pub ready-is : (l : List Vm) (i : ℕ) → isReady (getD l i fresh) ≡ readyIn (standingsOf l) i
 ready-is l i = ap (λ (n : ℕ). eqb n 1) (sym (List·getD-map (λ (v : Vm). v .standing) l i fresh))
-
-pub ready-past : (l : List ℕ) (i : ℕ) (r : Bool) → length l ≤ i → r ≡ false → r ≡ readyIn l i
-ready-past l i r h e = e ∙ rw (List·getD-eq-default l 0 h)
 
 -- the standing of a VM, by the list of standings
 pub standing-is : (l : List Vm) (i : ℕ) → getD (standingsOf l) i 0 ≡ getD l i fresh .standing

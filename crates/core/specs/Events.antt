@@ -1,35 +1,33 @@
 -- What each event does (D1 to D30), and an event as a whole: refused, or done.
 use Prim.Native.Nat.{ℕ}
-use lib.Dec.{eqb, leb}
-use mathlib.Core.Bool.{Bool}
+use lib.Dec.{eqb}
 use Rattle.basis.specs.Choice.{pick}
+use Rattle.basis.specs.Nobody.{nobody}
+use Rattle.change.specs.Answers.{noNotice, noticeOf}
+use Rattle.change.specs.Changes.{calledFrom}
+use Rattle.change.specs.declared.Change.{Change}
 use Rattle.config.specs.Sizes.{handlerAt, isSpare, ownerAt}
-use Rattle.core.specs.Changes.{answering, changedBy, deliveringFrom, ending, endingFrom, failing, failingFrom, noticeOf, queueing, queueingFrom, renewed, restarting, turnedAwayFrom}
-use Rattle.core.specs.Refusals.{noNotice, refusalOf, refused, rowOf}
-use Rattle.core.specs.State.{full, nobody, vmAt}
-use Rattle.core.specs.declared.Change.{Change}
+use Rattle.core.specs.Changes.{answering, changedBy, ending, failing, queueing, renewed, restarting}
+use Rattle.core.specs.Refusals.{refusalOf, refused, rowOf}
+use Rattle.core.specs.State.{withClock, withQueue, withRunning, withVms, full, vmAt}
 use Rattle.core.specs.declared.Core.{Core}
-use Rattle.core.specs.declared.Event.the-variants.{Call, Extra, Fault, Restart, Shutdown, Start, Stop, Tick, Write}
-use Rattle.core.specs.declared.Event.{Event}
 use Rattle.core.specs.declared.Stepped.{Stepped}
-use Rattle.guest.specs.Deliver.{backFrom, deliver}
+use Rattle.event.specs.declared.Event.the-variants.{Call, Extra, Fault, Restart, Shutdown, Start, Stop, Tick, Write}
+use Rattle.event.specs.declared.Event.{Event}
 use Rattle.guest.specs.Record.{pend, savedAt}
 use Rattle.guest.specs.Write.{write}
 use Rattle.guest.specs.declared.Vm.{Vm}
 use Rattle.queue.specs.Entries.{entries, frontOf, ofList, rest}
 use Rattle.queue.specs.declared.Queue.{Queue}
-use Rattle.table.specs.Position.{nextClock}
+use Rattle.table.specs.Position.{nextClock, startedClock}
 use Rattle.table.specs.declared.Clock.{Clock}
 use Rattle.vms.specs.Records.{startedAll}
 use Rattle.vms.specs.Tick.{turn}
 use Rattle.vms.specs.declared.Turn.{Turn}
 
 -- Start: D1, D2
-abbrev pub startedClock : Clock → Clock
-startedClock k = record { started = 1; ticked = k .ticked; slot = k .slot; left = k .left }
-
 unfoldable pub startCore : Core → Core
-startCore c = record { config = c .config; clock = startedClock (c .clock); running = c .running; queue = c .queue; vms = startedAll (c .config .count) (c .config .entries) (c .vms) }
+startCore c = withVms (withClock c (startedClock (c .clock))) (startedAll (c .config .count) (c .config .entries) (c .vms))
 
 -- Tick: D5, the clock and the VM that its slot names
 unfoldable pub tickClock : Core → Clock
@@ -47,18 +45,9 @@ unfoldable pub tickQueue : Core → Queue
 tickQueue c = pick (isSpare (tickOwner c)) (ofList (rest (entries (c .queue)))) (c .queue)
 
 abbrev pub tickCore : Core → ℕ → Core
-tickCore c at = record { config = c .config; clock = tickClock c; running = tickTurn c at .who; queue = tickQueue c; vms = tickTurn c at .vms }
+tickCore c at = withVms (withQueue (withRunning (withClock c (tickClock c)) (tickTurn c at .who)) (tickQueue c)) (tickTurn c at .vms)
 
--- Call: D25 to D30, for VM v, whose next address is stored in vm
-unfoldable pub calledFrom : ℕ → Queue → Bool → ℕ → ℕ → ℕ → ℕ → Vm → Change
-calledFrom running queue noRoom handler v service argument vm =
-    pick (eqb service 0) (deliveringFrom running queue v (deliver handler vm))
-    (pick (eqb service 1) (deliveringFrom running queue v (deliver handler (backFrom vm)))
-    (pick (eqb service 2) (pick (leb argument 31) (deliveringFrom running queue v (deliver handler (pend argument vm))) (failingFrom running queue v vm 2 argument))
-    (pick (eqb service 3) (endingFrom running queue v vm 3 (noticeOf 2 v))
-    (pick (eqb service 4) (pick noRoom (turnedAwayFrom running queue v vm) (queueingFrom running queue v vm))
-    (failingFrom running queue v vm 1 service)))))
-
+-- Call: D25 to D30
 abbrev pub called : Core → ℕ → ℕ → ℕ → Vm → Change
 called c v = calledFrom (c .running) (c .queue) (full c) (handlerAt (c .config) v) v
 

@@ -1,19 +1,21 @@
 // The core: its state, whether it is sound, and every event as a method that takes the state by value.
-mod changes;
-mod public;
-mod rows;
-mod sound;
-mod steps;
+mod inner_events;
+mod public_events;
 
+use change::Answer;
+use change::Change;
+use checks::sound;
 use config::Config;
 use guest::Vm;
 use queue::Queue;
 use table::Clock;
 ghost use mathlib.Core.Path.{_≡_};
+ghost use Rattle.basis.specs.Nobody.{nobody};
+ghost use Rattle.change.specs.Answers.{noNotice};
 ghost use Rattle.core.specs.Changes.{answering, changedBy};
-ghost use Rattle.core.specs.Refusals.{noNotice, quietly, refused};
+ghost use Rattle.core.specs.Refusals.{refused};
 ghost use Rattle.core.specs.Sound.{sound};
-ghost use Rattle.core.specs.State.{freshCore, nobody};
+ghost use Rattle.core.specs.State.{freshCore};
 
 // The whole state (T1). `running` is a VM's number, or NOBODY.
 #[repr(C)]
@@ -25,84 +27,11 @@ pub struct Core {
     pub vms: [Vm; 8],
 }
 
-// The events (E2 to E10), with what their records hold.
-pub enum Event {
-    Start,
-    Tick(u32),
-    Stop(u8),
-    Shutdown(u8),
-    Restart(u8),
-    Extra(u8),
-    Call(u8, u32, u32),
-    Write(u8, u32),
-    Fault(u8, u32),
-}
-
-// A notice (A4, A5). Kind 0 is none.
-#[repr(C)]
-pub struct Notice {
-    pub kind: u8,
-    pub vm: u8,
-    pub code: u8,
-    pub detail: u32,
-}
-
-// An answer (A1). `running` is NOBODY where no VM runs, `delivered` NOTHING where nothing was delivered; `removed` counts
-// the entries that the event took out of the queue (A8).
-#[repr(C)]
-pub struct Answer {
-    pub refusal: u8,
-    pub running: u8,
-    pub address: u32,
-    pub delivered: u8,
-    pub notice: Notice,
-    pub result: u8,
-    pub removed: u8,
-}
-
 // The state after an event, with the answer.
 #[repr(C)]
 pub struct Stepped {
     pub core: Core,
     pub answer: Answer,
-}
-
-impl Answer {
-    pub const NOBODY: u8 = 255;
-
-    pub const NOTHING: u8 = 255;
-
-    // An answer that tells nothing but who runs and where (A7, R3).
-    pub fn quiet(refusal: u8, running: u8, address: u32) -> Answer
-        ensures { λ r. ⌜ r ≡ quietly refusal running address ⌝ }
-    {
-        Answer {
-            refusal: refusal,
-            running: running,
-            address: address,
-            delivered: Answer::NOTHING,
-            notice: Notice {
-                kind: 0,
-                vm: 0,
-                code: 0,
-                detail: 0,
-            },
-            result: 0,
-            removed: 0,
-        }
-    }
-}
-
-// What an event makes of one VM, of who runs and of the queue, with the rest of its answer.
-pub struct Change {
-    pub place: u8,
-    pub vm: Vm,
-    pub running: u8,
-    pub queue: Queue,
-    pub delivered: u8,
-    pub notice: Notice,
-    pub result: u8,
-    pub removed: u8,
 }
 
 impl Core {

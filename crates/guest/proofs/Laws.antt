@@ -1,16 +1,14 @@
 -- The machine's operations on bits, in the terms of the definitions.
 use Prim.Native.Nat.{suc, zero, ℕ, _%_, _*_, _+_, _-_, _/_, _<_, _^_, _≤_}
 use borrow.Author.Tests.{eqb-false, eqb-true}
-use lib.Bits.{and-high, and-le-l, and-mod, and-shr, bitAnd, bitOr, or-add-and}
-use lib.Count.{leading-top}
+use lib.Bits.{and-high, and-mod, and-shr, bitAnd, bitOr, or-add-and}
 use lib.Dec.{eqb}
 use lib.Pow.{pow-add, pow-mono, shl-exact}
 use mathlib.Core.Bool.{Bool, false, true}
 use mathlib.Core.Path.{ap, refl, sym, _∙_, _≡_}
 use native.Mathlib.Decide.{decLt}
-use native.Mathlib.Nat.{div-eq-of-lt, div-eq-of-lt-le, lt-of-le-of-lt, lt-of-lt-of-le, mod-lt, pow-suc, zero-div}
+use native.Mathlib.Nat.{div-eq-of-lt, div-eq-of-lt-le, lt-of-lt-of-le, mod-lt, pow-suc, zero-div}
 use native.Mathlib.Omega.{arith}
-use Rattle.basis.proofs.Laws.{false-true}
 use Rattle.basis.specs.Choice.{both, pick}
 use Rattle.guest.specs.Bits.{bit, clearBit, highest, setBit}
 use Rattle.guest.specs.Deliver.{deliver, due, interrupt, quiet}
@@ -146,14 +144,14 @@ pub due-nothing : (s : Status) → due s ≡ Nothing → (k : ℕ) → k < 32 �
 unfolding due
 due-nothing s e = none-is _ 32 e
 
-pub due-few : (s : Status) (n : ℕ) → At n ≡ due s → n < 32
-due-few s n e = due-is s n (sym e) .0
-
--- ---- the search (D11): the test for none, then the walk; r is what the code found out about n, where the walk stands
-
 pub due-none : (s : Status) → bitAnd (s .pending) (s .enabled) ≡ 0 → Nothing ≡ due s
 unfolding due
 due-none s e = sym (highest-none _ 32 (λ k l. sym (bit-and k (s .pending) (s .enabled)) ∙ ap (bit k) e ∙ bit-zero k))
+
+pub due-few : (s : Status) (n : ℕ) → At n ≡ due s → n < 32
+due-few s n e = due-is s n (sym e) .0
+
+-- ---- the search (D11): a walk from 31 down; p and e are what the code found in the fields at n, where the walk stands
 
 -- the highest of 0 to n that is set in both
 pub dueTo : Status → ℕ → Found
@@ -163,31 +161,37 @@ pub walk-starts : (s : Status) → due s ≡ dueTo s 31
 unfolding due dueTo
 walk-starts s = refl
 
-pub walk-hits : (s : Status) (n : ℕ) (r : Bool) → due s ≡ dueTo s n → r ≡ inBoth s n → r ≡ true → At n ≡ due s
+pub walk-hits : (s : Status) (n : ℕ) (p e : Bool) → due s ≡ dueTo s n → p ≡ bit n (s .pending) → e ≡ bit n (s .enabled) → p ≡ true → e ≡ true → At n ≡ due s
 unfolding dueTo highest
-walk-hits s n r e f h = rw (e, ← f, h)
+walk-hits s n p e w f g i j = rw (w, ← f, ← g, i, j)
 
-pub walk-goes : (s : Status) (n : ℕ) (r : Bool) → due s ≡ dueTo s n → r ≡ inBoth s n → r ≡ false → 0 < n → due s ≡ dueTo s (n - 1)
-unfolding dueTo highest
-walk-goes s zero r e f h z = absurd (omega arith)
-walk-goes s (suc n) r e f h z = let q : suc n - 1 ≡ n = omega arith in rw (e, ← f, h, q)
+-- n is out where either field lacks it
+pub out-pending : (s : Status) (n : ℕ) (p : Bool) → p ≡ bit n (s .pending) → p ≡ false → inBoth s n ≡ false
+out-pending s n p f i = rw (← f, i)
 
--- where the fields share a bit the walk does not pass 0
-pub walk-stops : (s : Status) (n : ℕ) (r : Bool) → s .pending < 2 ^ 32 → (bitAnd (s .pending) (s .enabled) ≡ 0 → ⊥)
-    → due s ≡ dueTo s n → r ≡ inBoth s n → r ≡ false → 0 < n
+pub out-enabled : (s : Status) (n : ℕ) (p e : Bool) → p ≡ bit n (s .pending) → e ≡ bit n (s .enabled) → p ≡ true → e ≡ false → inBoth s n ≡ false
+out-enabled s n p e f g i j = rw (← f, ← g, i, j)
+
+pub walk-goes : (s : Status) (n : ℕ) → due s ≡ dueTo s n → inBoth s n ≡ false → (n ≡ 0 → ⊥) → due s ≡ dueTo s (n - 1)
 unfolding dueTo highest
-walk-stops s zero r l z e f h =
-    let m = bitAnd (s .pending) (s .enabled) in
-    let t = leading-top 32 m (omega arith) (lt-of-le-of-lt (and-le-l (s .pending) (s .enabled)) l) in
-    let none : due s ≡ Nothing = rw (e, ← f, h) in
-    false-true (sym (due-nothing s none (t .0) (omega (arith, t .1))) ∙ sym (bit-and (t .0) (s .pending) (s .enabled)) ∙ bit-top (t .0) m (t .2) (t .3))
-walk-stops s (suc n) r l z e f h = omega arith
+walk-goes s zero e f z = absurd (z refl)
+walk-goes s (suc n) e f z = let q : suc n - 1 ≡ n = omega arith in rw (e, f, q)
+
+pub walk-ends : (s : Status) (n : ℕ) → due s ≡ dueTo s n → inBoth s n ≡ false → n ≡ 0 → Nothing ≡ due s
+unfolding dueTo highest
+walk-ends s zero e f z = rw (e, f)
+walk-ends s (suc n) e f z = absurd (omega arith)
 
 -- ---- a delivery by what the code found
 
 pub deliver-none : (h : ℕ) (v : Vm) (f : Found) → f ≡ due (v .status) → f ≡ Nothing → quiet v ≡ deliver h v
 unfolding deliver
 deliver-none h v f e g = rw (← e, g)
+
+-- the guard: fields that share no number
+pub deliver-quietly : (h : ℕ) (v : Vm) → bitAnd (v .status .pending) (v .status .enabled) ≡ 0 → quiet v ≡ deliver h v
+unfolding deliver
+deliver-quietly h v e = rw (← due-none (v .status) e)
 
 pub deliver-at : (h n : ℕ) (v w : Vm) (f : Found) → f ≡ due (v .status) → f ≡ At n → w ≡ interrupt n h v
     → _≡_ {A = Delivery} (record { vm = w; number = At n }) (deliver h v)

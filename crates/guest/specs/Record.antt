@@ -7,23 +7,43 @@ use Rattle.guest.specs.Bits.{setBit}
 use Rattle.guest.specs.declared.Status.{Status}
 use Rattle.guest.specs.declared.Vm.{Vm}
 
+-- T3: the standings, as numbers; the first is that of a VM that was never started
+abbrev pub noStanding : ℕ
+noStanding = 0
+
+abbrev pub readyStanding : ℕ
+readyStanding = 1
+
+abbrev pub stoppedStanding : ℕ
+stoppedStanding = 2
+
+abbrev pub downStanding : ℕ
+downStanding = 3
+
+abbrev pub errorStanding : ℕ
+errorStanding = 4
+
+-- W12: no number over it is a standing
+abbrev pub lastStanding : ℕ
+lastStanding = errorStanding
+
 abbrev pub blank : Status
 blank = record { since = 0; left = 0; enabled = 0; pending = 0; resume = 0; reason = 0; previous = 0; restore = 0; ontick = 0; running = 0 }
 
 -- T6: a VM record of a fresh state
 abbrev pub fresh : Vm
-fresh = record { standing = 0; address = 0; status = blank; age = 0; ran = 0 }
+fresh = record { standing = noStanding; address = 0; status = blank; age = 0; ran = 0 }
 
 -- D1: ready at its entry, fields and counts zero
 abbrev pub startedAt : ℕ → Vm
-startedAt entry = record { standing = 1; address = entry; status = blank; age = 0; ran = 0 }
+startedAt entry = record { standing = readyStanding; address = entry; status = blank; age = 0; ran = 0 }
 
 abbrev pub isReady : Vm → Bool
-isReady v = eqb (v .standing) 1
+isReady v = eqb (v .standing) readyStanding
 
 -- W12, of one record
 abbrev pub standingKnown : Vm → Bool
-standingKnown v = leb (v .standing) 4
+standingKnown v = leb (v .standing) lastStanding
 
 unfoldable pub isBlank : Status → Bool
 isBlank s =
@@ -41,7 +61,7 @@ isBlank s =
 -- W2: every number of the record is zero
 unfoldable pub isFresh : Vm → Bool
 isFresh v =
-    both (eqb (v .standing) 0)
+    both (eqb (v .standing) noStanding)
     (both (eqb (v .address) 0)
     (both (isBlank (v .status))
     (both (eqb (v .age) 0)

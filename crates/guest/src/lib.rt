@@ -1,9 +1,10 @@
 // One VM: its record, the delivery of pseudo-interrupts to it, and the changes that events make in it.
 mod bits;
 
+use basis::tests::both;
 ghost use Prim.Native.Nat.{_<_};
 ghost use mathlib.Core.Path.{_≡_};
-ghost use Rattle.basis.specs.Choice.{both, pick};
+ghost use Rattle.basis.specs.Choice.{pick};
 ghost use Rattle.guest.specs.Deliver.{backFrom, deliver, enter, interrupt, quiet, shown};
 ghost use Rattle.guest.specs.Record.{blank, endedAs, fresh, isBlank, isFresh, isReady, older, pend, savedAt, standingKnown, startedAt};
 ghost use Rattle.guest.specs.Write.{isField, stored, write};
@@ -46,20 +47,22 @@ pub struct Delivery {
 }
 
 impl Vm {
+    // The standings (T3); NONE is that of a VM that was never started.
     pub const NONE: u8 = 0;
 
     pub const READY: u8 = 1;
 
     pub const STOPPED: u8 = 2;
 
-    pub const SHUT: u8 = 3;
+    pub const DOWN: u8 = 3;
 
     pub const ERROR: u8 = 4;
 
+    // No number over it is a standing (W12).
+    pub const LAST: u8 = 4;
+
     // The pseudo-interrupt that Shutdown makes pending (D17).
     pub const SHUTDOWN: u8 = 11;
-
-    pub const FIELDS: u8 = 10;
 
     // A VM that was never started (T6).
     pub fn fresh() -> Vm
@@ -97,7 +100,7 @@ impl Vm {
     pub fn has_standing(self) -> bool
         ensures { λ r. ⌜ r ≡ standingKnown self ⌝ }
     {
-        self.standing <= Vm::ERROR
+        self.standing <= Vm::LAST
     }
 
     // W2, of one record. The tests are joined without a branch between them.
@@ -107,7 +110,7 @@ impl Vm {
         let s = self.status;
         let counts = both(self.age == 0, self.ran == 0);
         let fields = both(is_blank(s), counts);
-        both(self.standing == 0, both(self.address == 0, fields))
+        both(self.standing == Vm::NONE, both(self.address == 0, fields))
     }
 
     // D3, D24.
@@ -163,11 +166,17 @@ impl Vm {
         v
     }
 
-    // D11, D12.
+    // D11, D12. Mostly the fields share no number, and then no walk is made.
     pub fn delivered(self, handler: u32) -> Delivery
         ensures { λ r. ⌜ r ≡ deliver handler self ⌝ }
     {
         let s = self.status;
+        if s.pending & s.enabled == 0 {
+            return Delivery {
+                vm: self,
+                number: Found::Nothing,
+            };
+        }
         let found = bits::due(s);
         match found {
             Found::Nothing => Delivery {
@@ -282,12 +291,6 @@ fn blank() -> Status
         ontick: 0,
         running: 0,
     }
-}
-
-fn both(a: bool, b: bool) -> bool
-    ensures { λ r. ⌜ r ≡ both a b ⌝ }
-{
-    if a { b } else { false }
 }
 
 fn is_blank(s: Status) -> bool

@@ -1,12 +1,14 @@
 // The live core (T9, K6): one core that is lent and changed where it stands, and what a host in C or Rust calls.
-mod inputs;
-
-use core::Answer;
+use change::Answer;
 use core::Core;
-use core::Event;
 use core::Stepped;
+use event::Asked;
+use event::Event;
 ghost use mathlib.Core.Path.{_≡_};
+ghost use Rattle.basis.specs.Choice.{unless};
 ghost use Rattle.core.specs.Events.{stepOf};
+ghost use Rattle.core.specs.Refusals.{refused};
+ghost use Rattle.core.specs.Sound.{sound};
 ghost use Rattle.live.specs.Host.{begunFrom, stepBy};
 
 // An event as plain numbers: the kind of its record (E2 to E10), then what its body holds. What a kind does not have is not read.
@@ -40,7 +42,7 @@ pub fn happen(c: &mut Core, e: Event) -> Answer
 pub extern "C" fn core_fresh(s: &[u8]) -> Begun
     ensures { λ r. ⌜ r ≡ begunFrom (now (s .entry)) ⌝ }
 {
-    let r = image::read(s);
+    let r = image_reader::read(s);
     let config = r.config;
     let core = Core::fresh(config);
     Begun {
@@ -55,10 +57,21 @@ pub extern "C" fn core_fresh(s: &[u8]) -> Begun
 pub extern "C" fn core_step(c: Core, e: Input) -> Stepped
     ensures { λ r. ⌜ r ≡ stepBy c e ⌝ }
 {
-    if inputs::known(e.kind) {
-        Core::step(c, inputs::event_of(e))
+    let a = Event::asked(e.kind, e.byte, e.word, e.next);
+    match a {
+        Asked::Known(event) => Core::step(c, event),
+        Asked::Unknown => unknown(c),
+    }
+}
+
+// What is no event is refused: with 10, as in a log, or with 1 where the state is not sound.
+fn unknown(c: Core) -> Stepped
+    ensures { λ r. ⌜ r ≡ refused c (unless (sound c) 1 10) ⌝ }
+{
+    if c.sound() {
+        c.refused(10)
     } else {
-        inputs::unknown(c)
+        c.refused(1)
     }
 }
 

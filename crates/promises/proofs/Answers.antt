@@ -5,20 +5,20 @@ use lib.Dec.{eqb}
 use mathlib.Core.Path.{refl, _≡_}
 use native.Mathlib.Omega.{arith}
 use Rattle.basis.specs.Choice.{both, pick}
+use Rattle.change.specs.declared.Change.{Change}
 use Rattle.config.specs.Sizes.{handlerAt}
 use Rattle.core.specs.Events.{done, stepOf}
 use Rattle.core.specs.State.{full, vmAt}
-use Rattle.core.specs.declared.Change.{Change}
 use Rattle.core.specs.declared.Core.{Core}
-use Rattle.core.specs.declared.Event.the-variants.{Call, Extra, Fault, Restart, Shutdown, Start, Stop, Tick, Write}
-use Rattle.core.specs.declared.Event.{Event}
 use Rattle.core.specs.declared.Stepped.{Stepped}
+use Rattle.core_laws.proofs.Refused.{step-shows}
+use Rattle.core_laws.proofs.View.{call-case}
+use Rattle.event.specs.declared.Event.the-variants.{Call, Extra, Fault, Restart, Shutdown, Start, Stop, Tick, Write}
+use Rattle.event.specs.declared.Event.{Event}
 use Rattle.guest.specs.Record.{savedAt}
+use Rattle.history.specs.History.{stateOf, ticksOf}
 use Rattle.promises.proofs.Starting.{ours-stays-sound, when-done}
 use Rattle.promises.specs.Demands.{Tells, noticeBy, resultBy}
-use Rattle.promises.specs.History.{stateOf, ticksOf}
-use Rattle.soundness.proofs.Refused.{step-shows}
-use Rattle.soundness.proofs.View.{call-case}
 
 call-notice : (c : Core) (s n at : ℕ) → done c (Call s n at) .answer .notice ≡ noticeBy c (Call s n at)
 unfolding done

@@ -12,30 +12,32 @@ use native.Mathlib.Nat.{mod-add-mod}
 use native.Mathlib.Omega.{arith}
 use Rattle.basis.proofs.Laws.{false-true}
 use Rattle.basis.specs.Choice.{pick}
+use Rattle.basis.specs.Nobody.{nobody}
+use Rattle.change.specs.Answers.{noticeOf}
+use Rattle.change.specs.declared.Change.{Change}
 use Rattle.config.specs.Sizes.{entryAt, handlerAt}
 use Rattle.config.specs.declared.Config.{Config}
-use Rattle.core.specs.Changes.{changedBy, ending, failing, noticeOf, queueing, renewed}
+use Rattle.core.specs.Changes.{changedBy, ending, failing, queueing, renewed}
 use Rattle.core.specs.Events.{called, done, stepOf, tickTurn}
 use Rattle.core.specs.Refusals.{refused, rowOf}
-use Rattle.core.specs.State.{freshCore, full, nobody, vmAt}
-use Rattle.core.specs.declared.Change.{Change}
+use Rattle.core.specs.State.{freshCore, full, vmAt}
 use Rattle.core.specs.declared.Core.{Core}
-use Rattle.core.specs.declared.Event.the-variants.{Call, Extra, Fault, Restart, Shutdown, Start, Stop, Tick, Write}
-use Rattle.core.specs.declared.Event.{Event}
 use Rattle.core.specs.declared.Stepped.{Stepped}
+use Rattle.core_laws.proofs.View.{call-case, row-restart, step-case}
+use Rattle.event.specs.declared.Event.the-variants.{Call, Extra, Fault, Restart, Shutdown, Start, Stop, Tick, Write}
+use Rattle.event.specs.declared.Event.{Event}
 use Rattle.guest.proofs.Facts.{deliver-age, deliver-ran, pend-age, pend-ran, write-age, write-ran}
 use Rattle.guest.specs.Deliver.{backFrom, deliver}
 use Rattle.guest.specs.Record.{endedAs, fresh, pend, savedAt, startedAt}
 use Rattle.guest.specs.Write.{write}
 use Rattle.guest.specs.declared.Vm.{Vm}
+use Rattle.history.proofs.Steps.{Reached, at-fresh, ours-at, step-at, vm-small}
+use Rattle.history.specs.History.{Behaviour, Given, Moment, history, moment, momentOf, moments, next, sinceLast, stateAfter, stateOf, ticking, ticksAfter, ticksOf}
+use Rattle.history.specs.Moments.{begins, ranIn}
 use Rattle.promises.proofs.Starting.{count-few, start-ready}
-use Rattle.promises.proofs.Steps.{Reached, at-fresh, ours-at, step-at, vm-small}
 use Rattle.promises.proofs.Ticks.{tick-age, tick-ran, tick-shows}
 use Rattle.promises.specs.Demands.{Clocks, Shows, ageIn, ranSince}
-use Rattle.promises.specs.History.{Behaviour, Given, Moment, history, moment, momentOf, moments, next, sinceLast, stateAfter, stateOf, ticking, ticksAfter, ticksOf}
-use Rattle.promises.specs.Moments.{begins, ranIn}
-use Rattle.soundness.proofs.Records.{store-keeps}
-use Rattle.soundness.proofs.View.{call-case, row-restart, step-case}
+use Rattle.vms.proofs.Records.{store-keeps}
 
 -- ---- any count, by what each event makes of it
 

@@ -9,18 +9,23 @@ use mathlib.Core.Path.{ap, refl, subst, sym, _∙_, _≡_}
 use native.Mathlib.Omega.{arith}
 use Rattle.basis.proofs.Laws.{false-true}
 use Rattle.basis.specs.Choice.{both}
+use Rattle.basis.specs.Nobody.{nobody}
+use Rattle.change.specs.Changes.{calledFrom, deliveringFrom}
+use Rattle.change.specs.declared.Change.{Change}
 use Rattle.config.specs.Sizes.{handlerAt}
 use Rattle.config.specs.declared.Config.{Config}
-use Rattle.core.specs.Changes.{changedBy, deliveringFrom}
-use Rattle.core.specs.Events.{called, calledFrom, done, stepOf, tickClock, tickTurn}
+use Rattle.core.specs.Changes.{changedBy}
+use Rattle.core.specs.Events.{called, done, stepOf, tickClock, tickTurn}
 use Rattle.core.specs.Refusals.{refused, rowOf}
 use Rattle.core.specs.Sound.{sound}
-use Rattle.core.specs.State.{full, nobody, vmAt}
-use Rattle.core.specs.declared.Change.{Change}
+use Rattle.core.specs.State.{full, vmAt}
 use Rattle.core.specs.declared.Core.{Core}
-use Rattle.core.specs.declared.Event.the-variants.{Call, Extra, Fault, Restart, Shutdown, Start, Stop, Tick, Write}
-use Rattle.core.specs.declared.Event.{Event}
 use Rattle.core.specs.declared.Stepped.{Stepped}
+use Rattle.core_laws.proofs.Facts.{running-below, sound-is}
+use Rattle.core_laws.proofs.Refused.{done-number}
+use Rattle.core_laws.proofs.View.{call-case, row-call, row-shutdown, step-case}
+use Rattle.event.specs.declared.Event.the-variants.{Call, Extra, Fault, Restart, Shutdown, Start, Stop, Tick, Write}
+use Rattle.event.specs.declared.Event.{Event}
 use Rattle.guest.proofs.Facts.{deliver-hit, deliver-number, deliver-quiet, pend-address, pend-enabled, pend-pending}
 use Rattle.guest.specs.Bits.{bit, clearBit, highest}
 use Rattle.guest.specs.Deliver.{backFrom, deliver, due, enter, shown}
@@ -29,14 +34,12 @@ use Rattle.guest.specs.declared.Delivery.{Delivery}
 use Rattle.guest.specs.declared.Found.the-variants.{At, Nothing}
 use Rattle.guest.specs.declared.Status.{Status}
 use Rattle.guest.specs.declared.Vm.{Vm}
+use Rattle.history.proofs.Steps.{Reached, ours-at, vm-small}
+use Rattle.history.specs.History.{Given, Moment, moment, momentOf, stateOf, ticksOf}
 use Rattle.promises.proofs.Starting.{count-few}
-use Rattle.promises.proofs.Steps.{Reached, ours-at, vm-small}
-use Rattle.promises.proofs.Ticks.{passed-address, passed-status, passedOf, tick-enters, tick-number, tick-passes, tick-silent}
+use Rattle.promises.proofs.Ticks.{passedOf, tick-enters, tick-number, tick-passes, tick-silent}
 use Rattle.promises.specs.Demands.{Delivered, Delivers, DeliversAtCall, DeliversAtTick, DeliversBy, DeliversOf, Enters, GoesOn, Offer, callDelivers, dueOf, tickOffer}
-use Rattle.promises.specs.History.{Given, Moment, moment, momentOf, stateOf, ticksOf}
-use Rattle.soundness.proofs.Facts.{running-below, sound-is}
-use Rattle.soundness.proofs.Refused.{done-number}
-use Rattle.soundness.proofs.View.{call-case, row-call, row-shutdown, step-case}
+use Rattle.vms.proofs.Records.{passed-address, passed-status}
 use Rattle.vms.specs.Tick.{numberOf}
 
 -- ---- a delivery to a VM that has what the offer says

@@ -1,8 +1,4 @@
-pub mod Facts
 pub mod Refusing
-pub mod Place
-pub mod Steps
-pub mod Lawful
 pub mod Accounts
 pub mod Slices
 pub mod Waits
@@ -11,8 +7,5 @@ pub mod Removal
 pub mod Ticks
 pub mod Clocks
 pub mod Delivery
-pub mod Worthless
-pub mod Vectors
 pub mod Answers
 pub mod Ours
-pub mod Images

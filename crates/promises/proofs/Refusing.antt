@@ -7,11 +7,11 @@ use Rattle.core.specs.Events.{stepOf}
 use Rattle.core.specs.Refusals.{refusalOf, refused, rowOf}
 use Rattle.core.specs.Sound.{sound}
 use Rattle.core.specs.declared.Core.{Core}
-use Rattle.core.specs.declared.Event.{Event}
 use Rattle.core.specs.declared.Stepped.{Stepped}
+use Rattle.core_laws.proofs.Refused.{step-number}
+use Rattle.core_laws.proofs.View.{step-refused}
+use Rattle.event.specs.declared.Event.{Event}
 use Rattle.promises.specs.Demands.{Refuses, firstOf, linesOf, saysNo}
-use Rattle.soundness.proofs.Refused.{step-number}
-use Rattle.soundness.proofs.View.{step-refused}
 
 -- the rows of the core's definition are the lines of the table
 pub lines-first : (c : Core) (e : Event) → firstOf (linesOf c e) ≡ refusalOf c e

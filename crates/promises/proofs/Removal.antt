@@ -7,16 +7,16 @@ use native.Mathlib.Omega.{arith}
 use Rattle.basis.proofs.Laws.{false-true}
 use Rattle.config.specs.declared.Config.{Config}
 use Rattle.core.specs.Events.{stepOf}
-use Rattle.promises.proofs.Lawful.{Lawful, lawful}
+use Rattle.core_laws.proofs.Events.{sound-step}
+use Rattle.core_laws.proofs.Facts.{entries-len, sound-is}
+use Rattle.history.proofs.Lawful.{Lawful, lawful}
+use Rattle.history.proofs.Steps.{ours-at, step-at}
+use Rattle.history.specs.History.{Moment, next, stateOf}
+use Rattle.history.specs.Queueing.{Add, Effect, Keep, Remove, Take, affected, effect, isRemove, removedFrom, removes}
 use Rattle.promises.proofs.Starting.{ours-stays-sound}
-use Rattle.promises.proofs.Steps.{ours-at, step-at}
 use Rattle.promises.specs.Demands.{Removing}
-use Rattle.promises.specs.History.{Moment, next, stateOf}
-use Rattle.promises.specs.Queueing.{Add, Effect, Keep, Remove, Take, affected, effect, isRemove, removedFrom, removes}
 use Rattle.queue.proofs.Meaning.{others-count}
 use Rattle.queue.specs.Entries.{entries}
-use Rattle.soundness.proofs.Events.{sound-step}
-use Rattle.soundness.proofs.Facts.{entries-len, sound-is}
 
 -- the entries before are those after and those that the answer tells of
 removed-law : (g : Config) (m : Moment) → Lawful g m → (v : ℕ) → removes g v m ≡ true → length (entries (m .before .queue)) ≡ length (entries (m .after .queue)) + m .answer .removed

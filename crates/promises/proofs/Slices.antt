@@ -1,61 +1,29 @@
 -- Ours meets the third demand on slices: a VM runs in the ticks named for it, and else only in spare ticks that took its entries.
 use Prim.Native.Nat.{ℕ, _+_, _<_, _≤_}
-use borrow.Author.Tests.{eq-eqb, eqb-true, ne-eqb}
 use mathlib.Core.Bool.{Bool, false, true}
 use mathlib.Core.List.{List, [], _∷_}
-use mathlib.Core.Path.{ap, refl, sym, _∙_, _≡_}
+use mathlib.Core.Path.{refl, sym, _∙_, _≡_}
 use native.Mathlib.Omega.{arith}
 use Rattle.basis.proofs.Laws.{false-true}
-use Rattle.basis.specs.Choice.{both, pick}
-use Rattle.config.specs.Sizes.{isSpare}
+use Rattle.basis.specs.Choice.{both}
 use Rattle.config.specs.declared.Config.{Config}
 use Rattle.core.specs.Events.{stepOf}
 use Rattle.core.specs.State.{readyAt}
 use Rattle.core.specs.declared.Core.{Core}
-use Rattle.core.specs.declared.Event.{Event}
-use Rattle.promises.proofs.Accounts.{balance, front-rest, handed-front, spare-takes, tick-of}
-use Rattle.promises.proofs.Facts.{num, times-cons, times-nil}
-use Rattle.promises.proofs.Lawful.{Lawful, lawful, runnerBy}
-use Rattle.promises.proofs.Steps.{Reached, each-of, ours-at, step-at, vm-small}
+use Rattle.event.specs.declared.Event.{Event}
+use Rattle.history.proofs.Counts.{num, times-cons, times-nil}
+use Rattle.history.proofs.Lawful.{Lawful, lawful}
+use Rattle.history.proofs.Steps.{Reached, each-of, ours-at, step-at, vm-small}
+use Rattle.history.proofs.Ticking.{else-spare, handed-law, named-runs, tick-of}
+use Rattle.history.specs.History.{Behaviour, Each, Moment, moment, moments, stateOf, ticking, ticksAfter, ticksOf, times}
+use Rattle.history.specs.Moments.{asks, handed, naming, ranIn, runs, spare}
+use Rattle.promises.proofs.Accounts.{balance}
 use Rattle.promises.specs.Demands.{Slices}
-use Rattle.promises.specs.History.{Behaviour, Each, Moment, moment, moments, stateOf, ticking, ticksAfter, ticksOf, times}
-use Rattle.promises.specs.Moments.{asks, handed, naming, ranIn, runs, spare, tableAt}
 use Rattle.queue.specs.Entries.{entries, entriesOf}
-use Rattle.vms.specs.Tick.{runnerOf}
-
--- ---- whom a tick runs
-
-runner-named : (c : Core) (o : ℕ) → isSpare o ≡ false → runnerBy c o ≡ pick (readyAt c o) o 255
-unfolding runnerOf
-runner-named c o e = rw e
 
 -- ---- one moment
 
 module _ (g : Config) (v : ℕ) (small : v < 255) (m : Moment) (l : Lawful g m) where
-  pub named-runs : naming g v m ≡ true → readyAt (m .before) v ≡ true → runs v m ≡ true
-  named-runs h r =
-      let t = tick-of g v small m l v h in
-      let o : isSpare (tableAt g (m .ticks)) ≡ false = ne-eqb (tableAt g (m .ticks)) 255 (λ e. omega (arith, t .1)) in
-      eq-eqb (m .answer .running) v (l .ran (t .0) ∙ runner-named (m .before) (tableAt g (m .ticks)) o ∙ rw (t .1, r))
-
-  pub else-spare : ticking m ≡ true → runs v m ≡ true → naming g v m ≡ false → spare g m ≡ true
-  unfolding naming
-  else-spare t r n = rw t (go (isSpare (tableAt g (m .ticks))) refl)
-    where
-      not-named : (b : Bool) → readyAt (m .before) (tableAt g (m .ticks)) ≡ b → pick b (tableAt g (m .ticks)) 255 ≡ v → ⊥
-      not-named true q e = false-true (sym n ∙ rw (t, eq-eqb (tableAt g (m .ticks)) v e))
-      not-named false q e = omega arith
-
-      go : (b : Bool) → isSpare (tableAt g (m .ticks)) ≡ b → b ≡ true
-      go true e = refl
-      go false e = absurd (not-named (readyAt (m .before) (tableAt g (m .ticks))) refl
-          (sym (runner-named (m .before) (tableAt g (m .ticks)) e) ∙ sym (l .ran t) ∙ eqb-true (m .answer .running) v r))
-
-  pub handed-law : ticking m ≡ true → runs v m ≡ true → naming g v m ≡ false → (spare g m ≡ true) × (entries (m .before .queue) ≡ v ∷ entries (m .after .queue))
-  handed-law t r n =
-      let s = else-spare t r n in
-      (s, front-rest v (entries (m .before .queue)) small (handed-front g v small m l s r) ∙ ap (λ (q : List ℕ). v ∷ q) (sym (spare-takes g v small m l s)))
-
   named-off : ticking m ≡ false → (w : ℕ) → naming g w m ≡ false
   unfolding naming
   named-off t w = rw t
@@ -73,8 +41,8 @@ module _ (g : Config) (v : ℕ) (small : v < 255) (m : Moment) (l : Lawful g m) 
 
       by-named : ticking m ≡ true → (b r : Bool) → naming g v m ≡ b → runs v m ≡ r → num r ≡ num b + num (both (spare g m) r)
       by-named t true true h e = rw (not-spare h)
-      by-named t true false h e = false-true (sym e ∙ named-runs h (ready t))
-      by-named t false true h e = rw (else-spare t e h)
+      by-named t true false h e = false-true (sym e ∙ named-runs g v small m l h (ready t))
+      by-named t false true h e = rw (else-spare g v small m l t e h)
       by-named t false false h e = off (spare g m)
         where
           off : (b : Bool) → 0 ≡ 0 + num (both b false)

@@ -8,27 +8,28 @@ use mathlib.Core.List.{List, [], _∷_}
 use mathlib.Core.Path.{ap, refl, sym, _∙_, _≡_}
 use native.Mathlib.Omega.{arith}
 use Rattle.basis.proofs.Laws.{false-true}
+use Rattle.basis.specs.Nobody.{nobody}
 use Rattle.config.proofs.Legality.{legal-is}
 use Rattle.config.specs.Sizes.{entryAt}
 use Rattle.config.specs.declared.Config.{Config}
 use Rattle.core.specs.Events.{done, startCore, stepOf}
 use Rattle.core.specs.Refusals.{refused, rowOf}
 use Rattle.core.specs.Sound.{sound}
-use Rattle.core.specs.State.{freshCore, nobody, vmAt}
+use Rattle.core.specs.State.{freshCore, vmAt}
 use Rattle.core.specs.declared.Core.{Core}
-use Rattle.core.specs.declared.Event.the-variants.{Restart, Start}
-use Rattle.core.specs.declared.Event.{Event}
 use Rattle.core.specs.declared.Stepped.{Stepped}
+use Rattle.core_laws.proofs.Always.{always-sound}
+use Rattle.core_laws.proofs.Facts.{sound-is}
+use Rattle.core_laws.proofs.Fresh.{fresh-sound}
+use Rattle.core_laws.proofs.Refused.{step-number}
+use Rattle.core_laws.proofs.View.{accepted-of, row-restart, row-start, start-row, step-case}
+use Rattle.core_laws.specs.Run.{run}
+use Rattle.event.specs.declared.Event.the-variants.{Restart, Start}
+use Rattle.event.specs.declared.Event.{Event}
 use Rattle.guest.specs.Record.{fresh, startedAt}
-use Rattle.promises.proofs.Steps.{Reached, ours-at}
+use Rattle.history.proofs.Steps.{Reached, ours-at}
+use Rattle.history.specs.History.{Given, moment, momentOf, next, stateAfter, stateOf, ticksOf, went}
 use Rattle.promises.specs.Demands.{Starts, StaysSound}
-use Rattle.promises.specs.History.{Given, moment, momentOf, next, stateAfter, stateOf, ticksOf, went}
-use Rattle.soundness.proofs.Always.{always-sound}
-use Rattle.soundness.proofs.Facts.{sound-is}
-use Rattle.soundness.proofs.Fresh.{fresh-sound}
-use Rattle.soundness.proofs.Refused.{step-number}
-use Rattle.soundness.proofs.View.{accepted-of, row-restart, row-start, start-row, step-case}
-use Rattle.soundness.specs.Run.{run}
 use Rattle.vms.proofs.Laws.{each-at}
 
 pub state-run : (es : List Event) (c : Core) → stateAfter stepOf c es ≡ run c es

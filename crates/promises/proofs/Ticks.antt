@@ -1,62 +1,27 @@
 -- What a tick makes of one VM record: address, fields, age and ticks run.
 use Prim.Native.Nat.{ℕ, _%_, _+_, _<_, _^_}
-use borrow.Author.Tests.{eq-eqb, lt-ltb, ltb-false, ltb-true, ne-eqb}
+use borrow.Author.Tests.{eq-eqb, lt-ltb, ne-eqb}
 use lib.Dec.{eqb, ltb}
 use lib.ListN.{getD, length, set}
 use lib.Seq.{getD-set-other, getD-set-same}
-use mathlib.Core.Bool.{Bool, false, true}
+use mathlib.Core.Bool.{Bool}
 use mathlib.Core.List.{List}
 use mathlib.Core.Path.{ap, refl, subst, sym, _∙_, _≡_}
 use native.Mathlib.Decide.{ℕ-discrete}
 use native.Mathlib.Omega.{arith}
-use Rattle.basis.proofs.Laws.{pick-case}
 use Rattle.basis.specs.Choice.{pick}
+use Rattle.basis.specs.Nobody.{nobody}
 use Rattle.config.specs.Sizes.{handlerAt}
 use Rattle.core.specs.Events.{tickClock, tickTurn}
-use Rattle.core.specs.State.{nobody, vmAt}
+use Rattle.core.specs.State.{vmAt}
 use Rattle.core.specs.declared.Core.{Core}
 use Rattle.guest.proofs.Facts.{enter-age, enter-left, enter-ran, enter-running, enter-since}
 use Rattle.guest.specs.Deliver.{enter, quiet}
-use Rattle.guest.specs.Record.{fresh, savedAt}
+use Rattle.guest.specs.Record.{fresh}
 use Rattle.guest.specs.declared.Vm.{Vm}
-use Rattle.soundness.proofs.Records.{aged-at, aged-keeps, passed-keeps, passed-length, saving-keeps, saving-length, store-at}
 use Rattle.vms.proofs.Laws.{eight}
-use Rattle.vms.specs.Tick.{entering, numberOf, passed, saving, turn, turnBy}
-
-module _ (running at count : ℕ) (l : List Vm) (eight : length l ≡ 8) (v : ℕ) (small : v < 8) where
-  -- D3: the address given is that of the VM that was running
-  pub passed-address : getD (passed running at count l) v fresh .address ≡ pick (eqb v running) at (getD l v fresh .address)
-  unfolding passed saving
-  passed-address = aged-keeps (λ w. w .address) (λ w. refl) count (saving running at l) v ∙ pick-case P (ltb running 8) _ _ here away
-    where
-      P : List Vm → Type 0
-      P w = getD w v fresh .address ≡ pick (eqb v running) at (getD l v fresh .address)
-
-      here : ltb running 8 ≡ true → P (set l running (savedAt at (getD l running fresh)))
-      here h =
-          let i : running < length l = omega (arith, ltb-true running 8 h) in
-          ap (λ (w : Vm). w .address) (store-at l running (savedAt at (getD l running fresh)) v i) ∙ out (eqb v running)
-        where
-          out : (b : Bool) → pick b (savedAt at (getD l running fresh)) (getD l v fresh) .address ≡ pick b at (getD l v fresh .address)
-          out true = refl
-          out false = refl
-
-      away : ltb running 8 ≡ false → P l
-      away h = let n = ltb-false running 8 h in rw (ne-eqb v running (λ e. omega arith))
-
-  -- D4
-  pub passed-age : v < count → getD (passed running at count l) v fresh .age ≡ (getD l v fresh .age + 1) % 2 ^ 32
-  unfolding passed
-  passed-age h =
-      let i : v < length (saving running at l) = omega (arith, saving-length running at l) in
-      ap (λ (w : Vm). w .age) (aged-at count (saving running at l) v i) ∙ rw (lt-ltb v count h)
-      (ap (λ (n : ℕ). (n + 1) % 2 ^ 32) (saving-keeps (λ w. w .age) (λ at w. refl) running at l v))
-
-  pub passed-ran : getD (passed running at count l) v fresh .ran ≡ getD l v fresh .ran
-  passed-ran = passed-keeps (λ w. w .ran) (λ at w. refl) (λ w. refl) running at count l v
-
-pub passed-status : (running at count : ℕ) (l : List Vm) (v : ℕ) → getD (passed running at count l) v fresh .status ≡ getD l v fresh .status
-passed-status running at count l v = passed-keeps (λ w. w .status) (λ at w. refl) (λ w. refl) running at count l v
+use Rattle.vms.proofs.Records.{passed-age, passed-length, passed-ran}
+use Rattle.vms.specs.Tick.{entering, numberOf, passed, turn, turnBy}
 
 -- ---- a tick of a core
 

@@ -12,15 +12,15 @@ use Rattle.basis.specs.Choice.{both, pick}
 use Rattle.config.specs.declared.Config.{Config}
 use Rattle.core.specs.Events.{stepOf}
 use Rattle.core.specs.declared.Core.{Core}
-use Rattle.core.specs.declared.Event.{Event}
-use Rattle.promises.proofs.Accounts.{asks-adds, spare-front}
-use Rattle.promises.proofs.Facts.{num, times-cons, times-nil}
-use Rattle.promises.proofs.Lawful.{Backs, Lawful, lawful}
-use Rattle.promises.proofs.Steps.{Reached, each-of, ours-at, step-at, vm-small}
+use Rattle.event.specs.declared.Event.{Event}
+use Rattle.history.proofs.Counts.{num, times-cons, times-nil}
+use Rattle.history.proofs.Lawful.{Backs, Lawful, lawful}
+use Rattle.history.proofs.Steps.{Reached, each-of, ours-at, step-at, vm-small}
+use Rattle.history.proofs.Ticking.{asks-adds, spare-front}
+use Rattle.history.specs.History.{Behaviour, Moment, moment, moments, next, ticksAfter, times}
+use Rattle.history.specs.Moments.{ends, runs, spare}
+use Rattle.history.specs.Queueing.{Add, Effect, Entry, Follows, Keep, Remove, Take, affected, effect, entriesNot, followed, isRemove, marked, mineFirst, plain, removes, servedIn, tail}
 use Rattle.promises.specs.Demands.{Waiting}
-use Rattle.promises.specs.History.{Behaviour, Moment, moment, moments, next, ticksAfter, times}
-use Rattle.promises.specs.Moments.{ends, runs, spare}
-use Rattle.promises.specs.Queueing.{Add, Effect, Entry, Follows, Keep, Remove, Take, affected, effect, entriesNot, followed, isRemove, marked, mineFirst, plain, removes, servedIn, tail}
 use Rattle.queue.proofs.Meaning.{others-length}
 use Rattle.queue.specs.Entries.{entries, frontOf, others, rest}
 

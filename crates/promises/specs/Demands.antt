@@ -1,5 +1,5 @@
 -- The three demands, each as a predicate over any behaviour.
-use Prim.Native.Nat.{suc, zero, ℕ, _%_, _+_, _-_, _<_, _^_, _≤_}
+use Prim.Native.Nat.{ℕ, _%_, _+_, _<_, _^_, _≤_}
 use lib.Bits.{bitOr}
 use lib.Dec.{eqb, leb, ltb}
 use lib.ListN.{length}
@@ -7,28 +7,30 @@ use mathlib.Core.Bool.{Bool, false, not, true}
 use mathlib.Core.List.{List, map, [], _++_, _∷_}
 use mathlib.Core.Path.{_≡_}
 use Rattle.basis.specs.Choice.{both, either, pick}
-use Rattle.config.specs.Sizes.{durationAt, entryAt, handlerAt, ownerAt}
+use Rattle.basis.specs.Nobody.{nobody}
+use Rattle.change.specs.Answers.{errorOf, noNotice, noticeOf, quietly}
+use Rattle.change.specs.declared.Answer.{Answer}
+use Rattle.change.specs.declared.Notice.{Notice}
+use Rattle.config.specs.Sizes.{entryAt, handlerAt}
 use Rattle.config.specs.declared.Config.{Config}
-use Rattle.core.specs.Changes.{errorOf, noticeOf}
-use Rattle.core.specs.Refusals.{isExtra, isStart, noNotice, ofMaster, ofRunning, strayFault, strayWrite, subject, wantsReady}
+use Rattle.core.specs.Refusals.{strayFault, strayWrite}
 use Rattle.core.specs.Sound.{sound}
-use Rattle.core.specs.State.{addressOf, full, idle, nobody, readyAt, vmAt}
-use Rattle.core.specs.declared.Answer.{Answer}
+use Rattle.core.specs.State.{addressOf, full, idle, readyAt, vmAt}
 use Rattle.core.specs.declared.Core.{Core}
-use Rattle.core.specs.declared.Event.the-variants.{Call, Extra, Fault, Restart, Shutdown, Start, Stop, Tick, Write}
-use Rattle.core.specs.declared.Event.{Event}
-use Rattle.core.specs.declared.Notice.{Notice}
+use Rattle.event.specs.Kinds.{byteOf, isCall, isExtra, isStart, ofMaster, ofRunning, subject, wantsReady}
+use Rattle.event.specs.declared.Event.the-variants.{Call, Extra, Fault, Restart, Shutdown, Start, Stop, Tick, Write}
+use Rattle.event.specs.declared.Event.{Event}
 use Rattle.guest.specs.Bits.{bit, clearBit, highest, setBit}
 use Rattle.guest.specs.Record.{startedAt}
 use Rattle.guest.specs.declared.Found.the-variants.{At, Nothing}
 use Rattle.guest.specs.declared.Found.{Found}
 use Rattle.guest.specs.declared.Vm.{Vm}
-use Rattle.promises.specs.History.{Behaviour, Each, Given, Moment, after, history, next, sinceLast, stateOf, stretch, ticking, ticksOf, times, went}
-use Rattle.promises.specs.Moments.{asks, begins, ends, handed, naming, ranIn, runs, spare, sumOf, tableAt, tableTo}
-use Rattle.promises.specs.Queueing.{Follows, effect, marked, plain, removedFrom, removedIn, removes, servedIn}
+use Rattle.history.specs.History.{Behaviour, Each, Given, Moment, after, history, next, sinceLast, stateOf, stretch, ticking, ticksOf, times, went}
+use Rattle.history.specs.Moments.{asks, begins, ends, handed, naming, ranIn, runs, spare}
+use Rattle.history.specs.Queueing.{Follows, effect, marked, plain, removedFrom, removedIn, removes, servedIn}
 use Rattle.queue.specs.Entries.{entries, entriesOf}
-use Rattle.table.specs.Position.{hasTicked, isStarted}
-use Rattle.table.specs.declared.Clock.{Clock}
+use Rattle.table.specs.Place.{Stands}
+use Rattle.table.specs.Position.{isStarted}
 use Rattle.vms.specs.Tick.{numberOf}
 
 -- ---- first demand: what is refused
@@ -61,8 +63,7 @@ firstOf (l ∷ ls) = pick (l .applies) (l .number) (firstOf ls)
 
 -- R3: what a refusal with n answers
 abbrev pub saysNo : Core → ℕ → Answer
-saysNo c n =
-    record { refusal = n; running = pick (eqb n 1) nobody (c .running); address = pick (eqb n 1) 0 (addressOf c); delivered = nobody; notice = noNotice; result = 0; removed = 0 }
+saysNo c n = quietly n (pick (eqb n 1) nobody (c .running)) (pick (eqb n 1) 0 (addressOf c))
 
 -- the number is that of the first line that applies; an event with a number leaves the state, and answers as R3 says
 pub record RefusedAs (b : Behaviour) (c : Core) (e : Event) : Type 0 where
@@ -97,15 +98,7 @@ noticeBy c (Fault k d) = errorOf (c .running) k d
 
 -- A6: a Call for extra time that finds the queue full
 abbrev pub resultBy : Core → Event → ℕ
-resultBy c Start = 0
-resultBy c (Tick at) = 0
-resultBy c (Stop v) = 0
-resultBy c (Shutdown v) = 0
-resultBy c (Restart v) = 0
-resultBy c (Extra v) = 0
-resultBy c (Call s n at) = pick (both (eqb s 4) (full c)) 1 0
-resultBy c (Write o x) = 0
-resultBy c (Fault k d) = 0
+resultBy c e = pick (both (isCall e) (both (eqb (byteOf e) 4) (full c))) 1 0
 
 -- A2, R3: the answer shows the VM that now runs, and where it goes on; and the notice and the result of what was done
 pub record TellsOf (m : Moment) : Type 0 where
@@ -129,19 +122,6 @@ abbrev pub Removing : Behaviour → Type 0
 Removing b = (g : Config) → Given g → (es : List Event) (e : Event) → RemovesOf g (next b g es e)
 
 -- ---- second demand: the table
-
--- the clock stands at table tick k modulo the sum of durations, counted from 0
-pub record Placed (g : Config) (k : ℕ) (h : Clock) : Type 0 where
-  pub ticked : hasTicked h ≡ true
-  pub slot : h .slot < g .slots
-  pub left : (1 ≤ h .left) × (h .left ≤ durationAt g (h .slot))
-  pub place : length (tableTo g (h .slot)) + (durationAt g (h .slot) - h .left) ≡ k % sumOf g
-  pub owner : ownerAt g (h .slot) ≡ tableAt g k
-
--- after no accepted tick the table was not entered; after k + 1 the clock stands at table tick k
-abbrev pub Stands : Config → ℕ → Clock → Type 0
-Stands g zero h = hasTicked h ≡ false
-Stands g (suc k) h = Placed g k h
 
 pub record TableOf (b : Behaviour) (g : Config) (es : List Event) : Type 0 where
   pub kept : stateOf b g es .config ≡ g

@@ -1,3 +1,5 @@
 pub mod Lists
 pub mod Meaning
 pub mod Turns
+pub mod Unique
+pub mod Counts

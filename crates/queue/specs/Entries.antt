@@ -6,8 +6,10 @@ use mathlib.Core.Bool.{Bool}
 use mathlib.Core.List.{List, [], _++_, _∷_}
 use Rattle.basis.specs.Choice.{either, pick}
 use Rattle.basis.specs.Count.{every}
+use Rattle.basis.specs.Nobody.{nobody}
 use Rattle.queue.specs.declared.Queue.{Queue}
 use Rattle.queue.specs.declared.Removal.{Removal}
+use Rattle.queue.specs.declared.Served.{Served}
 
 -- the entries, the oldest first
 abbrev pub entries : Queue → List ℕ
@@ -17,15 +19,19 @@ entries q = take (q .len) (q .items)
 abbrev pub ofList : List ℕ → Queue
 ofList l = record { items = l ++ replicate (16 - length l) 0; len = length l }
 
--- the oldest entry, or 255 where there is none (D7)
+-- the oldest entry, if there is one (D7)
 unfoldable pub frontOf : List ℕ → ℕ
-frontOf [] = 255
+frontOf [] = nobody
 frontOf (x ∷ l) = x
 
 -- the entries after the oldest (D7)
 unfoldable pub rest : List ℕ → List ℕ
 rest [] = []
 rest (x ∷ l) = l
+
+-- who is served at a tick, and what is left: at a spare tick the oldest entry leaves, at any other none does (D7)
+abbrev pub served : Bool → Queue → Served
+served spare q = record { vm = pick spare (frontOf (entries q)) nobody; queue = pick spare (ofList (rest (entries q))) q }
 
 -- the entries that are not v, in their order (D14, D18)
 unfoldable pub others : ℕ → List ℕ → List ℕ

@@ -5,7 +5,7 @@ ghost use mathlib.Core.Bool.{false, true};
 ghost use mathlib.Core.List.{[]};
 ghost use mathlib.Core.Path.{_≡_};
 ghost use Rattle.basis.specs.Choice.{pick};
-ghost use Rattle.queue.specs.Entries.{entries, frontOf, ofList, others, paddedOf, pushed, removal, rest};
+ghost use Rattle.queue.specs.Entries.{entries, frontOf, ofList, others, paddedOf, pushed, removal, rest, served};
 
 // A queue: its first `len` places are its entries.
 #[repr(C)]
@@ -20,10 +20,14 @@ pub struct Removal {
     pub count: u8,
 }
 
+// Who is served at a tick, or NOBODY, and the queue that is left.
+pub struct Served {
+    pub vm: u8,
+    pub queue: Queue,
+}
+
 impl Queue {
     pub const PLACES: u8 = 16;
-
-    pub const NOBODY: u8 = 255;
 
     pub fn empty() -> Queue
         ensures { λ r. ⌜ r ≡ ofList [] ⌝ }
@@ -34,21 +38,31 @@ impl Queue {
         }
     }
 
-    // The oldest entry, or NOBODY (D7).
-    pub fn front(self) -> u8
+    // Who is served at a tick, and what is left: at a spare tick the oldest entry leaves, if there is one (D7).
+    pub fn served(self, spare: bool) -> Served
+        ensures { λ r. ⌜ r ≡ served spare self ⌝ }
+    {
+        if spare {
+            Served {
+                vm: self.front(),
+                queue: self.popped(),
+            }
+        } else {
+            Served {
+                vm: basis::NOBODY,
+                queue: self,
+            }
+        }
+    }
+
+    // The oldest entry, or NOBODY.
+    fn front(self) -> u8
         ensures { λ r. ⌜ r ≡ frontOf (entries self) ⌝ }
     {
         if self.len == 0 {
-            return Queue::NOBODY;
+            return basis::NOBODY;
         }
         self.items[0]
-    }
-
-    // Without its oldest entry if `now`, else as it is (D7).
-    pub fn popped_if(self, now: bool) -> Queue
-        ensures { λ r. ⌜ r ≡ pick now (ofList (rest (entries self))) self ⌝ }
-    {
-        if now { self.popped() } else { self }
     }
 
     // Each place takes what the next one has; where that is no entry, zero.
@@ -167,7 +181,7 @@ fn one_less(n: u8) -> u8
         return 0;
     }
     if Queue::PLACES < n {
-        return 15;
+        return Queue::PLACES - 1;
     }
     n - 1
 }

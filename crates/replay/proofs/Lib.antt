@@ -1,5 +1,4 @@
-pub mod Texts
-pub mod Lines
+pub mod Begun
+pub mod Pieces
 pub mod Filling
-pub mod Offsets
-pub mod Same
+pub mod Unique

@@ -7,7 +7,7 @@ fn main() {
     let mut log = io::large_buffer();
     let m = console::read_file(b"config.bin", &mut image);
     let t = counted(&image[..m], &mut log);
-    let n = tally::put(&mut log, &image[..m], t);
+    let n = tally_text::put(&mut log, &image[..m], t);
     io::write_all(1, &log[..n]);
 }
 
@@ -18,7 +18,7 @@ fn counted(image: &[u8], log: &mut [u8]) -> Tally
     let mut t = Tally::none();
     let mut k: u8 = 0;
     while k < Tally::LOGS {
-        let name = tally::log_name(k);
+        let name = tally_text::log_name(k);
         let fd = os::open_read(&name);
         if fd < 0 {
             return t;

@@ -10,6 +10,10 @@ use Rattle.table.specs.declared.Clock.{Clock}
 abbrev pub freshClock : Clock
 freshClock = record { started = 0; ticked = 0; slot = 0; left = 0 }
 
+-- D1, D2: the core is started, and all else stays
+abbrev pub startedClock : Clock → Clock
+startedClock k = record { started = 1; ticked = k .ticked; slot = k .slot; left = k .left }
+
 abbrev pub isStarted : Clock → Bool
 isStarted k = eqb (k .started) 1
 

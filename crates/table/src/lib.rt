@@ -1,8 +1,9 @@
 // The table's clock: where the core stands in the table, and how a tick moves it (D5).
+use basis::places;
 ghost use Prim.Native.Nat.{_<_};
 ghost use lib.ListN.{getD};
 ghost use mathlib.Core.Path.{_≡_};
-ghost use Rattle.table.specs.Position.{enterSlot, freshClock, nextClock};
+ghost use Rattle.table.specs.Position.{enterSlot, freshClock, nextClock, startedClock};
 
 // Whether the core was started and has ticked, the current slot and the ticks left in it.
 #[repr(C)]
@@ -17,15 +18,29 @@ impl Clock {
     // A flag that is set.
     pub const YES: u8 = 1;
 
+    pub const NO: u8 = 0;
+
     // The clock of a fresh core.
     pub fn fresh() -> Clock
         ensures { λ r. ⌜ r ≡ freshClock ⌝ }
     {
         Clock {
-            started: 0,
-            ticked: 0,
+            started: Clock::NO,
+            ticked: Clock::NO,
             slot: 0,
             left: 0,
+        }
+    }
+
+    // The clock of a core that is started (D1, D2).
+    pub fn started(self) -> Clock
+        ensures { λ r. ⌜ r ≡ startedClock self ⌝ }
+    {
+        Clock {
+            started: Clock::YES,
+            ticked: self.ticked,
+            slot: self.slot,
+            left: self.left,
         }
     }
 
@@ -39,7 +54,7 @@ impl Clock {
         if 1 < self.left {
             return Clock {
                 started: self.started,
-                ticked: 1,
+                ticked: Clock::YES,
                 slot: self.slot,
                 left: self.left - 1,
             };
@@ -56,7 +71,7 @@ impl Clock {
     {
         Clock {
             started: self.started,
-            ticked: 1,
+            ticked: Clock::YES,
             slot: slot,
             left: duration_at(slot, durations),
         }
@@ -67,16 +82,14 @@ impl Clock {
 pub fn duration_at(slot: u8, durations: &[u16]) -> u16
     ensures { λ r. ⌜ r ≡ getD (now (durations .entry)) slot 0 ⌝ }
 {
-    let i = slot as usize;
-    if i < durations.len() { durations[i] } else { 0 }
+    places::half_at(durations, slot as usize)
 }
 
-// The VM that a slot names, or 255 for spare; 0 past the last place.
+// The VM that a slot names, or Config::SPARE; 0 past the last place.
 pub fn owner_at(slot: u8, owners: &[u8]) -> u8
     ensures { λ r. ⌜ r ≡ getD (now (owners .entry)) slot 0 ⌝ }
 {
-    let i = slot as usize;
-    if i < owners.len() { owners[i] } else { 0 }
+    places::byte_at(owners, slot as usize)
 }
 
 fn wide(x: u8) -> u16

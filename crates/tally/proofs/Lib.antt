@@ -1,7 +1,5 @@
 pub mod Turns
-pub mod Showing
 pub mod Growing
 pub mod Whole
-pub mod Sums
-pub mod Prints
-pub mod Vectors
+pub mod Logs
+pub mod Unique

@@ -2,10 +2,10 @@
 use Prim.Native.Nat.{ℕ}
 use mathlib.Core.Bool.{Bool}
 use Rattle.basis.specs.Choice.{both}
+use Rattle.basis.specs.Nobody.{nobody}
 use Rattle.config.specs.declared.Config.{Config}
-use Rattle.core.specs.State.{nobody}
-use Rattle.promises.specs.History.{Moment}
-use Rattle.promises.specs.Moments.{handed, naming, ranIn, runs}
+use Rattle.history.specs.History.{Moment}
+use Rattle.history.specs.Moments.{handed, naming, ranIn, runs}
 
 -- N16: an accepted tick in a slot that names v, and runs it
 unfoldable pub tableTick : Config → ℕ → Moment → Bool

@@ -1,17 +1,12 @@
-// The tick report: the figures of a row of logs, counted from the answers alone, and their text (N13 to N21).
+// The figures of a tick report: those of a row of logs, counted from the answers alone (N13 to N17, N19, N20).
 mod count;
-mod line;
 
 use core::Core;
 use count::Count;
 use count::Marks;
 use table::Clock;
-ghost use Prim.Native.Nat.{_≤_};
-ghost use lib.ListN.{length};
 ghost use mathlib.Core.Path.{_≡_};
-ghost use Rattle.tally.specs.Counting.{noTally, shownIn, withLog};
-ghost use Rattle.tally.specs.Report.{logName};
-ghost use Rattle.text.specs.Puts.{Puts};
+ghost use Rattle.tally.specs.Counting.{noTally, withLog};
 
 // The figures of some logs: table ticks, spare ticks and missed ticks of each VM; idle ticks; all accepted ticks.
 pub struct Tally {
@@ -21,9 +16,6 @@ pub struct Tally {
     pub idle: u32,
     pub ticks: u32,
 }
-
-// The most bytes that a report has, and some more.
-const ROOM: usize = 512;
 
 impl Tally {
     // The most logs that a report has (N13).
@@ -46,11 +38,11 @@ impl Tally {
     pub fn with_log(self, image: &[u8], log: &[u8]) -> Tally
         ensures { λ r. ⌜ r ≡ withLog (now (image .entry)) (now (log .entry)) self ⌝ }
     {
-        let r = image::read(image);
+        let r = image_reader::read(image);
         if r.fault != 0 {
             return self;
         }
-        if replay::LONGEST < log.len() {
+        if events::LONGEST < log.len() {
             return self;
         }
         let config = r.config;
@@ -65,37 +57,4 @@ impl Tally {
         };
         count::run(c, config, log)
     }
-}
-
-// Puts the report of an image and the figures of its logs, from the buffer's front. A buffer shorter than ROOM takes nothing.
-pub fn put(b: &mut [u8], image: &[u8], t: Tally) -> usize
-    ensures { λ r. ⌜ Puts (shownIn (length (now (b .entry))) (now (image .entry)) t) (now (b .entry)) 0 (now (b .exit)) r × (r ≤ length (now (b .entry))) ⌝ }
-{
-    if b.len() < ROOM {
-        return 0;
-    }
-    let r = image::read(image);
-    let fault = r.fault;
-    if fault != 0 {
-        return replay::put_refused(b, 0, fault, r.offset as u32);
-    }
-    let config = r.config;
-    line::put_tally(b, 0, config.count, t)
-}
-
-// The name of a log's file, for a number of at most two digits.
-pub fn log_name(k: u8) -> [u8; 9]
-    ensures { λ r. ⌜ r ≡ logName k ⌝ }
-{
-    [
-        108,
-        111,
-        103,
-        48 + k / 10 % 10,
-        48 + k % 10,
-        46,
-        98,
-        105,
-        110,
-    ]
 }

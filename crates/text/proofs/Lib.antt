@@ -1,3 +1,4 @@
 pub mod Puts
 pub mod Digits
 pub mod Values
+pub mod Unique

@@ -14,6 +14,7 @@ use native.Mathlib.Omega.{arith}
 use Rattle.basis.proofs.Laws.{upTo-more}
 use Rattle.basis.specs.Choice.{pick}
 use Rattle.basis.specs.Count.{upTo}
+use Rattle.basis.specs.Nobody.{nobody}
 use Rattle.config.specs.Sizes.{isSpare}
 use Rattle.guest.specs.Deliver.{enter, quiet}
 use Rattle.guest.specs.Record.{fresh, isReady, older, savedAt}
@@ -118,13 +119,24 @@ saved-law l r at s e = go (ltb r 8) refl
 
 -- D6, D7, as the code chooses
 pub runner-law : (l : List Vm) (owner head who : ℕ) (b : Bool) → length l ≡ 8 → b ≡ isReady (getD l (owner % 8) fresh)
-    → who ≡ pick (isSpare owner) head (pick (ltb owner 8) (pick b owner 255) 255) → who ≡ runnerOf owner head l
+    → who ≡ pick (isSpare owner) head (pick (ltb owner 8) (pick b owner nobody) nobody) → who ≡ runnerOf owner head l
 unfolding runnerOf
 runner-law l owner head who b h e f = go (ltb owner 8) refl
   where
-    go : (t : Bool) → ltb owner 8 ≡ t → who ≡ pick (isSpare owner) head (pick (isReady (getD l owner fresh)) owner 255)
+    go : (t : Bool) → ltb owner 8 ≡ t → who ≡ pick (isSpare owner) head (pick (isReady (getD l owner fresh)) owner nobody)
     go true g = rw (g, e, mod-8 owner g) at f
     go false g = (let p : length l ≤ owner = omega (arith, ltb-false owner 8 g) in rw (List·getD-eq-default l fresh p) (rw g at f))
+
+-- at a tick that is not spare it does not matter who would be served
+pub turn-served : (l : List Vm) (handlers : List ℕ) (running at count owner head other left : ℕ)
+    → turn running at count owner (pick (isSpare owner) head other) left handlers l ≡ turn running at count owner head left handlers l
+unfolding turn runnerOf
+turn-served l handlers running at count owner head other left = go (isSpare owner)
+  where
+    go : (b : Bool) → turnBy (pick b (pick b head other) (pick (isReady (getD (passed running at count l) owner fresh)) owner nobody)) left handlers (passed running at count l)
+        ≡ turnBy (pick b head (pick (isReady (getD (passed running at count l) owner fresh)) owner nobody)) left handlers (passed running at count l)
+    go true = refl
+    go false = refl
 
 -- D8, D9, as the code stores them
 pub entered-law : (l : List Vm) (handlers : List ℕ) (who left address number : ℕ) (d : Delivery) → length l ≡ 8
@@ -150,7 +162,7 @@ pub turn-law : (l w : List Vm) (handlers : List ℕ) (running at count owner hea
     → s ≡ pick (ltb running 8) (savedAt at (getD l (running % 8) fresh)) (getD l (running % 8) fresh)
     → w ≡ agedAll k (set l (running % 8) s) → k ≡ min count 8
     → b ≡ isReady (getD w (owner % 8) fresh)
-    → who ≡ pick (isSpare owner) head (pick (ltb owner 8) (pick b owner 255) 255)
+    → who ≡ pick (isSpare owner) head (pick (ltb owner 8) (pick b owner nobody) nobody)
     → d ≡ pick (ltb who 8) (enter left (getD handlers (who % 8) 0) (getD w (who % 8) fresh)) (quiet (getD w (who % 8) fresh))
     → address ≡ pick (ltb who 8) (d .vm .address) 0 → number ≡ numberOf (d .number)
     → record { vms = set w (who % 8) (d .vm); who = who; address = address; number = number } ≡ turn running at count owner head left handlers l

@@ -1,9 +1,10 @@
--- What a tick does to the VM records (D3, D4, D6 to D9). A number from 8 on is no VM's; 255 is nobody.
+-- What a tick does to the VM records (D3, D4, D6 to D9). A number from 8 on is no VM's.
 use Prim.Native.Nat.{ℕ}
 use lib.Dec.{ltb}
 use lib.ListN.{getD, set}
 use mathlib.Core.List.{List}
 use Rattle.basis.specs.Choice.{pick}
+use Rattle.basis.specs.Nobody.{nobody}
 use Rattle.config.specs.Sizes.{isSpare}
 use Rattle.guest.specs.Deliver.{enter, quiet}
 use Rattle.guest.specs.Record.{fresh, isReady, savedAt}
@@ -14,9 +15,9 @@ use Rattle.guest.specs.declared.Vm.{Vm}
 use Rattle.vms.specs.Records.{agedAll}
 use Rattle.vms.specs.declared.Turn.{Turn}
 
--- the pseudo-interrupt's number, 255 for none
+-- the pseudo-interrupt's number, if there is one
 abbrev pub numberOf : Found → ℕ
-numberOf Nothing = 255
+numberOf Nothing = nobody
 numberOf (At n) = n
 
 -- D3: the address given is where the VM that was running goes on
@@ -25,7 +26,7 @@ saving running at l = pick (ltb running 8) (set l running (savedAt at (getD l ru
 
 -- D6, D7: a spare slot runs the VM of the oldest entry, a named slot its VM if that is ready
 unfoldable pub runnerOf : ℕ → ℕ → List Vm → ℕ
-runnerOf owner head l = pick (isSpare owner) head (pick (isReady (getD l owner fresh)) owner 255)
+runnerOf owner head l = pick (isSpare owner) head (pick (isReady (getD l owner fresh)) owner nobody)
 
 -- D8, D9: the tick enters the VM that runs
 unfoldable pub entering : ℕ → ℕ → List ℕ → List Vm → Delivery

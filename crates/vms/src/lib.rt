@@ -7,12 +7,13 @@ ghost use lib.Dec.{ltb};
 ghost use lib.ListN.{getD, set};
 ghost use mathlib.Core.Path.{_≡_};
 ghost use Rattle.basis.specs.Choice.{pick};
+ghost use Rattle.basis.specs.Nobody.{nobody};
 ghost use Rattle.config.specs.Sizes.{isSpare};
 ghost use Rattle.guest.specs.Record.{fresh};
 ghost use Rattle.vms.specs.Records.{restFresh, standingsOf, startedAll};
 ghost use Rattle.vms.specs.Tick.{numberOf, turn};
 
-// The records after a tick, who runs and where, and what was delivered. 255 is nobody, and nothing.
+// The records after a tick, who runs and where, and what was delivered; NOBODY for none.
 pub struct Turn {
     pub vms: [Vm; 8],
     pub who: u8,
@@ -134,7 +135,7 @@ pub fn turned(
 
 // Who runs in a slot, where `ready` says it of the record that the owner's number leads to.
 fn runner(owner: u8, head: u8, ready: bool) -> u8
-    ensures { λ r. ⌜ r ≡ pick (isSpare owner) head (pick (ltb owner 8) (pick ready owner 255) 255) ⌝ }
+    ensures { λ r. ⌜ r ≡ pick (isSpare owner) head (pick (ltb owner 8) (pick ready owner nobody) nobody) ⌝ }
 {
     if owner == Config::SPARE {
         return head;
@@ -143,9 +144,9 @@ fn runner(owner: u8, head: u8, ready: bool) -> u8
         if ready {
             return owner;
         }
-        return 255;
+        return basis::NOBODY;
     }
-    255
+    basis::NOBODY
 }
 
 fn if_vm(who: u8, address: u32) -> u32
@@ -154,12 +155,12 @@ fn if_vm(who: u8, address: u32) -> u32
     if who < 8 { address } else { 0 }
 }
 
-// The number of a pseudo-interrupt, 255 for none.
+// The number of a pseudo-interrupt, or NOBODY for none.
 pub fn number_of(f: Found) -> u8
     ensures { λ r. ⌜ r ≡ numberOf f ⌝ }
 {
     match f {
-        Found::Nothing => 255,
+        Found::Nothing => basis::NOBODY,
         Found::At(n) => n,
     }
 }

@@ -6,7 +6,7 @@ use mathlib.Core.Path.{refl, _≡_}
 use native.Mathlib.Omega.{arith}
 use Rattle.report.proofs.counted.Statement.{statement}
 use Rattle.report.proofs.counted.Tie as tie
-use Rattle.tally.proofs.Prints.{of-more, of-most, of-none}
+use Rattle.tally.proofs.Logs.{of-more, of-most, of-none}
 use Rattle.tally.specs.Counting.{OfLogs}
 
 abbrev Inv-loop : tie.InvT-loop

@@ -1,10 +1,11 @@
--- What is due is the highest of the numbers where the walk stands and below; there is one, so the walk does not pass 0.
+-- What is due is the highest of the numbers where the walk stands and below.
 use borrow.Author.Needs.{needs}
-use Prim.Native.Nat.{_<_, _≤_}
+use Prim.Native.Nat.{_≤_}
+use mathlib.Core.Bool.{false}
 use mathlib.Core.Path.{_≡_}
-use native.Mathlib.Omega.{arith}
+use mathlib.Core.Logic.{⊎-elim}
 use Rattle.guest.specs.Deliver.{due}
-use Rattle.guest.proofs.Laws.{due-none, dueTo, walk-goes, walk-hits, walk-starts, walk-stops}
+use Rattle.guest.proofs.Laws.{dueTo, inBoth, out-enabled, out-pending, walk-ends, walk-goes, walk-hits, walk-starts}
 use Rattle.guest.proofs.bits.due.Statement.{statement}
 use Rattle.guest.proofs.bits.due.Tie as tie
 
@@ -14,26 +15,43 @@ Inv-loop status n₀ n = (n ≤ 31) × (due status ≡ dueTo status n)
 abbrev μ-loop : tie.MeasureT-loop
 μ-loop status n₀ n = n
 
-returns : tie.Need-returns Inv-loop μ-loop
-returns c = search (needs, due-none)
-
 loop-holds : tie.Need-loop-holds Inv-loop μ-loop
 loop-holds c = (search needs, search (needs, walk-starts))
 
-in-both-requires : tie.Need-in-both-requires Inv-loop μ-loop
-in-both-requires c κs = search needs
+has-bit-requires : tie.Need-has-bit-requires Inv-loop μ-loop
+has-bit-requires c κs = search needs
+
+has-bit-requires-2 : tie.Need-has-bit-requires-2 Inv-loop μ-loop
+has-bit-requires-2 c κs = search needs
 
 sub-n : tie.Need-sub-n Inv-loop μ-loop
-sub-n c = search (needs, walk-stops)
+sub-n c = search needs
 
 loop-less : tie.Need-loop-less Inv-loop μ-loop
-loop-less c = let l : 0 < c .before .before .loop .n = search (needs, walk-stops) in omega (arith, l)
+loop-less c = search needs
 
 loop-again : tie.Need-loop-again Inv-loop μ-loop
-loop-again c = (search needs, search (needs, walk-goes, walk-stops))
+loop-again c =
+    let s = c .before .before .before .before .args .status in
+    let n = c .before .before .before .loop .n in
+    let p = c .before .before .has-bit .ensures in
+    let out : inBoth s n ≡ false =
+    ⊎-elim (λ w. out-enabled s n _ _ p (w .1 .ensures) (w .0 .taken) (w .2 .left)) (λ w. out-pending s n _ p (w .left)) (c .before .if1 .came) in
+    (search needs, walk-goes s n (c .before .before .before .loop .inv .1) out (c .if3 .left))
+
+returns : tie.Need-returns Inv-loop μ-loop
+returns c = search (needs, walk-hits)
 
 returns-2 : tie.Need-returns-2 Inv-loop μ-loop
-returns-2 c = search (needs, walk-hits)
+returns-2 c =
+    let s = c .before .before .before .before .args .status in
+    let n = c .before .before .before .loop .n in
+    let p = c .before .before .has-bit .ensures in
+    let out : inBoth s n ≡ false =
+    ⊎-elim (λ w. out-enabled s n _ _ p (w .1 .ensures) (w .0 .taken) (w .2 .left)) (λ w. out-pending s n _ p (w .left)) (c .before .if1 .came) in
+    walk-ends s n (c .before .before .before .loop .inv .1) out (c .if3 .taken)
 
 pub due-spec : {M : Type 1} → statement M
-due-spec = tie.close (tie.spec Inv-loop μ-loop returns loop-holds in-both-requires sub-n loop-less loop-again returns-2)
+due-spec =
+    tie.close
+    (tie.spec Inv-loop μ-loop loop-holds has-bit-requires has-bit-requires-2 sub-n loop-less loop-again returns returns-2)

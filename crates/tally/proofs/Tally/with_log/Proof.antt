@@ -12,7 +12,7 @@ returns : tie.Need-returns
 returns c = log-refused _ _ _ (c .before .before .read .ensures) (c .if1 .taken)
 
 returns-2 : tie.Need-returns-2
-returns-2 c = log-long _ _ _ (c .before .before .before .read .ensures) (c .before .if1 .left) (c .if2 .taken)
+returns-2 c = log-long _ _ _ (c .before .before .before .read .ensures) (c .before .if1 .left) (omega (arith, c .if2 .taken))
 
 fresh-requires : tie.Need-fresh-requires
 fresh-requires c κs = search needs

@@ -1,0 +1,13 @@
+-- No second answer fits (C2): each public function whose contract is an equation.
+use mathlib.Core.Path.{sym, _∙_}
+use Rattle.basis.proofs.Unique.{OneAnswer}
+use Rattle.config.proofs.Config.legal.Kinds as legal-kinds
+use Rattle.config.proofs.Config.legal.Reads as legal-reads
+use Rattle.config.proofs.Config.serves_all.Kinds as serves-kinds
+use Rattle.config.proofs.Config.serves_all.Reads as serves-reads
+
+pub legal-one : OneAnswer 0 legal-kinds.ps legal-kinds.r legal-reads.Post
+legal-one κs a x y s t p q = p ∙ sym q
+
+pub serves-one : OneAnswer 0 serves-kinds.ps serves-kinds.r serves-reads.Post
+serves-one κs a x y s t p q = p ∙ sym q

@@ -1,0 +1,5 @@
+pub mod Counts
+pub mod Steps
+pub mod Lawful
+pub mod Ticking
+pub mod Images

@@ -1,0 +1,102 @@
+-- What one lawful moment says of a VM: whom a tick runs, and what a spare tick takes out of the queue.
+use Prim.Native.Nat.{ℕ, _<_}
+use borrow.Author.Tests.{eq-eqb, eqb-true, ne-eqb}
+use lib.Dec.{eqb}
+use mathlib.Core.Bool.{Bool, false, true}
+use mathlib.Core.List.{List, _∷_}
+use mathlib.Core.Path.{ap, refl, subst, sym, _∙_, _≡_}
+use native.Mathlib.Omega.{arith}
+use Rattle.basis.proofs.Laws.{both-left, both-right, false-true}
+use Rattle.basis.specs.Choice.{pick}
+use Rattle.config.specs.Sizes.{isSpare}
+use Rattle.config.specs.declared.Config.{Config}
+use Rattle.core.specs.State.{readyAt}
+use Rattle.core.specs.declared.Core.{Core}
+use Rattle.event.specs.declared.Event.the-variants.{Call, Extra, Fault, Restart, Shutdown, Start, Stop, Tick, Write}
+use Rattle.event.specs.declared.Event.{Event}
+use Rattle.history.proofs.Lawful.{Backs, Lawful, runnerBy}
+use Rattle.history.specs.History.{Moment, ticking, went}
+use Rattle.history.specs.Moments.{asks, isRequest, naming, runs, spare}
+use Rattle.history.specs.Queueing.{Add, Effect, Keep, Remove, Take, affected, effect, effectBy, ofService}
+use Rattle.queue.proofs.Counts.{front-rest}
+use Rattle.queue.specs.Entries.{entries, frontOf, rest}
+use Rattle.table.specs.Place.{tableAt}
+use Rattle.vms.specs.Tick.{runnerOf}
+
+-- whom a tick runs
+runner-spare : (c : Core) (o : ℕ) → isSpare o ≡ true → runnerBy c o ≡ frontOf (entries (c .queue))
+unfolding runnerOf
+runner-spare c o e = rw e
+
+runner-named : (c : Core) (o : ℕ) → isSpare o ≡ false → runnerBy c o ≡ pick (readyAt c o) o 255
+unfolding runnerOf
+runner-named c o e = rw e
+
+module _ (g : Config) (v : ℕ) (small : v < 255) (m : Moment) (l : Lawful g m) where
+  pub tick-of : (w : ℕ) → naming g w m ≡ true → (ticking m ≡ true) × (tableAt g (m .ticks) ≡ w)
+  unfolding naming
+  tick-of w h = (both-left (ticking m) _ h, eqb-true (tableAt g (m .ticks)) w (both-right (ticking m) _ h))
+
+  -- a spare tick takes the oldest entry
+  pub spare-takes : spare g m ≡ true → entries (m .after .queue) ≡ rest (entries (m .before .queue))
+  spare-takes h = go (effect g m) (l .backed) (l .queue)
+    where
+      go : (f : Effect) → Backs g m f → entries (m .after .queue) ≡ affected f (entries (m .before .queue)) → entries (m .after .queue) ≡ rest (entries (m .before .queue))
+      go Keep k q = false-true (sym k ∙ h)
+      go Take k q = q
+      go (Add w) k q = false-true (sym (k .0) ∙ h)
+      go (Remove w) k q = false-true (sym (k .0) ∙ h)
+
+  pub spare-front : spare g m ≡ true → m .answer .running ≡ frontOf (entries (m .before .queue))
+  spare-front h = let t = tick-of 255 h in l .ran (t .0) ∙ runner-spare (m .before) (tableAt g (m .ticks)) (eq-eqb (tableAt g (m .ticks)) 255 (t .1))
+
+  pub handed-front : spare g m ≡ true → runs v m ≡ true → frontOf (entries (m .before .queue)) ≡ v
+  handed-front h r = sym (spare-front h) ∙ eqb-true (m .answer .running) v r
+
+  pub named-runs : naming g v m ≡ true → readyAt (m .before) v ≡ true → runs v m ≡ true
+  named-runs h r =
+      let t = tick-of v h in
+      let o : isSpare (tableAt g (m .ticks)) ≡ false = ne-eqb (tableAt g (m .ticks)) 255 (λ e. omega (arith, t .1)) in
+      eq-eqb (m .answer .running) v (l .ran (t .0) ∙ runner-named (m .before) (tableAt g (m .ticks)) o ∙ rw (t .1, r))
+
+  pub else-spare : ticking m ≡ true → runs v m ≡ true → naming g v m ≡ false → spare g m ≡ true
+  unfolding naming
+  else-spare t r n = rw t (go (isSpare (tableAt g (m .ticks))) refl)
+    where
+      not-named : (b : Bool) → readyAt (m .before) (tableAt g (m .ticks)) ≡ b → pick b (tableAt g (m .ticks)) 255 ≡ v → ⊥
+      not-named true q e = false-true (sym n ∙ rw (t, eq-eqb (tableAt g (m .ticks)) v e))
+      not-named false q e = omega arith
+
+      go : (b : Bool) → isSpare (tableAt g (m .ticks)) ≡ b → b ≡ true
+      go true e = refl
+      go false e = absurd (not-named (readyAt (m .before) (tableAt g (m .ticks))) refl
+          (sym (runner-named (m .before) (tableAt g (m .ticks)) e) ∙ sym (l .ran t) ∙ eqb-true (m .answer .running) v r))
+
+  pub handed-law : ticking m ≡ true → runs v m ≡ true → naming g v m ≡ false → (spare g m ≡ true) × (entries (m .before .queue) ≡ v ∷ entries (m .after .queue))
+  handed-law t r n =
+      let s = else-spare t r n in
+      (s, front-rest v (entries (m .before .queue)) small (handed-front s r) ∙ ap (λ (q : List ℕ). v ∷ q) (sym (spare-takes s)))
+
+-- an accepted request joins the queue
+
+pub asks-adds : (g : Config) (v : ℕ) (m : Moment) → asks v m ≡ true → effect g m ≡ Add v
+unfolding asks effect
+asks-adds g v m h =
+    let a = both-left (went m) _ h in
+    rw a (by (m .event) (both-right (went m) _ h))
+  where
+    by : (e : Event) → isRequest v (m .before) (m .answer) e ≡ true → effectBy g m e ≡ Add v
+    by Start i = false-true i
+    by (Tick at) i = false-true i
+    by (Stop w) i = false-true i
+    by (Shutdown w) i = false-true i
+    by (Restart w) i = false-true i
+    by (Extra w) i = ap Add (eqb-true w v i)
+    by (Call s n at) i =
+        (let a : s ≡ 4 = eqb-true s 4 (both-left (eqb s 4) _ i) in
+        let j = both-right (eqb s 4) _ i in
+        let r = both-left (eqb (m .answer .result) 0) _ j in
+        let w = eqb-true (m .before .running) v (both-right (eqb (m .answer .result) 0) _ j) in
+        subst (λ (x : ℕ). ofService (m .before .running) x n (m .answer .result) ≡ Add v) (sym a) (rw r (ap Add w)))
+    by (Write o x) i = false-true i
+    by (Fault k x) i = false-true i

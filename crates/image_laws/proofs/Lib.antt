@@ -1,0 +1,9 @@
+pub mod Fill
+pub mod Text
+pub mod Trip
+pub mod Back
+pub mod Front
+pub mod Theorems
+pub mod Values
+pub mod Vectors
+pub mod Unique

@@ -1,0 +1,125 @@
+// Reading the records one after the other: the VMs, the slots, the end.
+use crate::Reading;
+use crate::records;
+use basis::numbers;
+use basis::places;
+use config::Config;
+ghost use Prim.Native.Nat.{_+_, _<_, _^_, _≤_};
+ghost use lib.ListN.{drop, length};
+ghost use mathlib.Core.Path.{_≡_};
+ghost use Rattle.image_reader.specs.Reader.{begun, readEnd, readSlots, readVms, refused, withSlot, withVm};
+
+// The configuration that a core record begins.
+pub fn begun(count: u8, room: u8) -> Config
+    ensures { λ r. ⌜ r ≡ begun count room ⌝ }
+{
+    Config {
+        count: count,
+        room: room,
+        slots: 0,
+        entries: [0; 8],
+        handlers: [0; 8],
+        owners: [0; 64],
+        durations: [0; 64],
+    }
+}
+
+// A refusal hands out no configuration (I10).
+pub fn refused(fault: u8, at: usize) -> Reading
+    ensures { λ r. ⌜ r ≡ refused fault at ⌝ }
+{
+    let none = begun(0, 0);
+    Reading {
+        fault: fault,
+        offset: at,
+        config: none,
+    }
+}
+
+// The VM records, which start behind the core record, and all that follows.
+pub fn read_vms(s: &[u8], core: Config) -> Reading
+    requires { ⌜ (3 ≤ length (now s)) × (core .count ≤ 8) × (core .slots ≡ 0) ⌝ }
+    ensures { λ r. ⌜ r ≡ readVms (core .count) (drop 3 (now (s .entry))) 3 core ⌝ }
+{
+    let mut c = core;
+    let mut at: usize = 3;
+    let mut k: u8 = 0;
+    while k < core.count {
+        let rest = &s[at..];
+        let fault = records::vm_fault(rest);
+        if fault != 0 {
+            return refused(fault, at);
+        }
+        c = with_vm(c, k, numbers::word(rest, 1), numbers::word(rest, 5));
+        at = at + 9;
+        k = k + 1;
+    }
+    read_slots(s, at, c)
+}
+
+fn with_vm(c: Config, k: u8, entry: u32, handler: u32) -> Config
+    requires { ⌜ k < 8 ⌝ }
+    ensures { λ r. ⌜ r ≡ withVm c k entry handler ⌝ }
+{
+    let i = k as usize;
+    let mut next = c;
+    next.entries[i] = entry;
+    next.handlers[i] = handler;
+    next
+}
+
+// The slot records from `from` on, and the end record.
+fn read_slots(s: &[u8], from: usize, vms: Config) -> Reading
+    requires { ⌜ (from ≤ length (now s)) × (vms .slots ≡ 0) ⌝ }
+    ensures { λ r. ⌜ r ≡ readSlots 65 (drop from (now (s .entry))) from vms ⌝ }
+{
+    let mut c = vms;
+    let mut at = from;
+    let mut n: u8 = 0;
+    while n < 65 {
+        let rest = &s[at..];
+        if places::byte_at(rest, 0) == 4 {
+            return read_end(rest, at, c);
+        }
+        let fault = records::slot_fault(c.count, n, rest);
+        if fault != 0 {
+            return refused(fault, at);
+        }
+        c = with_slot(c, places::byte_at(rest, 1), numbers::half(rest, 2));
+        at = at + 4;
+        n = n + 1;
+    }
+    refused(26, at)
+}
+
+fn with_slot(c: Config, owner: u8, ticks: u16) -> Config
+    requires { ⌜ c .slots < 64 ⌝ }
+    ensures { λ r. ⌜ r ≡ withSlot c owner ticks ⌝ }
+{
+    let i = c.slots as usize;
+    let mut next = c;
+    next.owners[i] = owner;
+    next.durations[i] = ticks;
+    next.slots = c.slots + 1;
+    next
+}
+
+// The end record, with all that the image has still.
+fn read_end(rest: &[u8], at: usize, c: Config) -> Reading
+    requires { ⌜ (at + length (now rest) < 2 ^ 64) × (1 ≤ length (now rest)) × (c .slots ≤ 64) ⌝ }
+    ensures { λ r. ⌜ r ≡ readEnd (now (rest .entry)) at c ⌝ }
+{
+    if c.serves_all() {
+        if rest.len() == 1 {
+            Reading {
+                fault: 0,
+                offset: 0,
+                config: c,
+            }
+        } else {
+            refused(28, at + 1)
+        }
+    } else {
+        refused(27, at)
+    }
+}

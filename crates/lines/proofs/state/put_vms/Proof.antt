@@ -1,0 +1,67 @@
+-- The first `k` VMs are put.
+use Prim.Native.Nat.{_*_, _+_, _-_, _≤_}
+use borrow.Author.Needs.{needs}
+use lib.ListN.{getD, length}
+use mathlib.Core.Path.{refl, _∙_, _≡_}
+use native.Mathlib.Omega.{arith}
+use Rattle.basis.specs.Count.{joined}
+use Rattle.guest.specs.Record.{fresh}
+use Rattle.lines.proofs.Texts.{joined-end, joined-more, joined-none}
+use Rattle.lines.proofs.state.put_vms.Statement.{statement}
+use Rattle.lines.proofs.state.put_vms.Tie as tie
+use Rattle.lines.specs.Text.{vmText, vmsText}
+use Rattle.text.specs.Puts.{Puts}
+
+abbrev Inv-loop : tie.InvT-loop
+Inv-loop b₀ at vms to₀ k₀ b to k = (k ≤ 8) × (to ≤ at + k * 146) × (length b ≡ length b₀) × Puts (joined (λ j. vmText j (getD vms j fresh)) k) b₀ at b to
+
+abbrev μ-loop : tie.MeasureT-loop
+μ-loop b₀ at vms to₀ k₀ b to k = 8 - k
+
+loop-holds : tie.Need-loop-holds Inv-loop μ-loop
+loop-holds c = (omega arith, omega arith, refl, joined-none _)
+
+cast-vm : tie.Need-cast-vm Inv-loop μ-loop
+cast-vm c = search needs
+
+mul-vm : tie.Need-mul-vm Inv-loop μ-loop
+mul-vm c = search needs
+
+array-copy-out-vm : tie.Need-array-copy-out-vm Inv-loop μ-loop
+array-copy-out-vm c = search needs
+
+put-vm-requires : tie.Need-put-vm-requires Inv-loop μ-loop
+put-vm-requires c κs = omega (arith, c .before .before .before .loop .inv .1, c .before .before .before .loop .inv .2)
+
+add-k : tie.Need-add-k Inv-loop μ-loop
+add-k c = search needs
+
+loop-less : tie.Need-loop-less Inv-loop μ-loop
+loop-less c = search needs
+
+loop-again : tie.Need-loop-again Inv-loop μ-loop
+loop-again c = (omega arith, omega (arith, c .before .before .put-vm .ensures .1, c .before .before .before .before .before .before .loop .inv .1), c .before .before .put-vm .kept .0 ∙ c .before .before .before .before .before .before .loop .inv .2, joined-more _ (c .before .before .before .before .before .before .loop .inv .3) (c .before .before .put-vm .ensures .0))
+
+same-length : tie.Need-same-length Inv-loop μ-loop
+same-length c = c .before .loop .inv .2
+
+returns : tie.Need-returns Inv-loop μ-loop
+unfolding vmsText
+returns c = (joined-end _ (c .before .loop .inv .3) (omega arith), omega (arith, c .before .loop .inv .1))
+
+pub put-vms-spec : {M : Type 1} → statement M
+put-vms-spec =
+    tie.close
+    (tie.spec
+    Inv-loop
+    μ-loop
+    loop-holds
+    cast-vm
+    mul-vm
+    array-copy-out-vm
+    put-vm-requires
+    add-k
+    loop-less
+    loop-again
+    same-length
+    returns)

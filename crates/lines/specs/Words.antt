@@ -1,0 +1,55 @@
+-- The words of the text, as the bytes of their letters, and the parts of which lines are made (N3 to N7).
+use Prim.Native.Nat.{ℕ}
+use lib.Dec.{eqb}
+use mathlib.Core.List.{List, [], _++_, _∷_}
+use Rattle.basis.specs.Choice.{pick}
+use Rattle.basis.specs.Nobody.{nobody}
+use Rattle.text.specs.Digits.{decimal, hex8}
+
+-- `config `, `long` and a line's end, `cut `, `image `
+abbrev pub configWord : List ℕ
+configWord = 99 ∷ 111 ∷ 110 ∷ 102 ∷ 105 ∷ 103 ∷ 32 ∷ []
+
+abbrev pub longLine : List ℕ
+longLine = 108 ∷ 111 ∷ 110 ∷ 103 ∷ 10 ∷ []
+
+abbrev pub cutWord : List ℕ
+cutWord = 99 ∷ 117 ∷ 116 ∷ 32 ∷ []
+
+abbrev pub imageWord : List ℕ
+imageWord = 105 ∷ 109 ∷ 97 ∷ 103 ∷ 101 ∷ 32 ∷ []
+
+-- `notice `, `core `, `queue`, `vm `
+abbrev pub noticeWord : List ℕ
+noticeWord = 110 ∷ 111 ∷ 116 ∷ 105 ∷ 99 ∷ 101 ∷ 32 ∷ []
+
+abbrev pub coreWord : List ℕ
+coreWord = 99 ∷ 111 ∷ 114 ∷ 101 ∷ 32 ∷ []
+
+abbrev pub queueWord : List ℕ
+queueWord = 113 ∷ 117 ∷ 101 ∷ 117 ∷ 101 ∷ []
+
+abbrev pub vmWord : List ℕ
+vmWord = 118 ∷ 109 ∷ 32 ∷ []
+
+-- a dot and a line's end
+abbrev pub dotLine : List ℕ
+dotLine = 46 ∷ 10 ∷ []
+
+-- a number in decimal, or an address as eight hexadecimal digits, and the byte behind it: 32 is a space, 10 a line's end
+abbrev pub number : ℕ → ℕ → List ℕ
+number n after = decimal n ++ (after ∷ [])
+
+abbrev pub address : ℕ → ℕ → List ℕ
+address n after = hex8 n ++ (after ∷ [])
+
+abbrev pub two : ℕ → ℕ → ℕ → List ℕ
+two m n after = number m 32 ++ number n after
+
+-- N4: `-` for none
+abbrev pub dash : ℕ → List ℕ
+dash after = 45 ∷ after ∷ []
+
+-- a VM or a pseudo-interrupt, or none
+unfoldable pub choice : ℕ → ℕ → List ℕ
+choice v after = pick (eqb v nobody) (dash after) (number v after)

@@ -1,0 +1,29 @@
+// An image as text.
+// The line `image` and the bytes, two hexadecimal digits each.
+ghost use Prim.Native.Nat.{_+_, _≤_};
+ghost use lib.ListN.{length};
+ghost use Rattle.lines.specs.Text.{bytesText, imageText};
+ghost use Rattle.text.specs.Puts.{Puts};
+
+pub fn put_image(b: &mut [u8], bytes: &[u8]) -> usize
+    requires { ⌜ (length (now bytes) ≤ 332) × (2048 ≤ length (now b)) ⌝ }
+    ensures { λ r. ⌜ Puts (imageText (now (bytes .entry))) (now (b .entry)) 0 (now (b .exit)) r × (r ≤ 2048) ⌝ }
+{
+    let a1 = text::put_word(b, 0, b"image ");
+    let a2 = put_bytes(b, a1, bytes);
+    text::put_byte(b, a2, 10)
+}
+
+fn put_bytes(b: &mut [u8], at: usize, bytes: &[u8]) -> usize
+    requires { ⌜ (length (now bytes) ≤ 332) × (at + 664 ≤ length (now b)) ⌝ }
+    ensures { λ r. ⌜ Puts (bytesText (now (bytes .entry)) (length (now (bytes .entry)))) (now (b .entry)) at (now (b .exit)) r × (r ≤ at + 664) ⌝ }
+{
+    let n = bytes.len();
+    let mut to = at;
+    let mut k: usize = 0;
+    while k < n {
+        to = text::put_hex_byte(b, to, bytes[k]);
+        k = k + 1;
+    }
+    to
+}

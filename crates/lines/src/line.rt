@@ -1,0 +1,74 @@
+// The lines of a run's text: that of an event (N3, N4), of a refused image (N5), of a cut log (N7).
+use change::Answer;
+ghost use Prim.Native.Nat.{_+_, _≤_};
+ghost use lib.ListN.{length};
+ghost use Rattle.lines.specs.Text.{cutText, lineText, refusedText, runsText, whereText};
+ghost use Rattle.lines.specs.Words.{address, choice, two};
+ghost use Rattle.text.specs.Puts.{Puts};
+
+// A VM or a pseudo-interrupt, or `-` for none, and the byte behind it.
+pub fn put_choice(b: &mut [u8], at: usize, v: u8, after: u8) -> usize
+    requires { ⌜ at + 11 ≤ length (now b) ⌝ }
+    ensures { λ r. ⌜ Puts (choice v after) (now (b .entry)) at (now (b .exit)) r × (r ≤ at + 11) ⌝ }
+{
+    if v == Answer::NOBODY {
+        return text::put_mark(b, at, 45, after);
+    }
+    text::put_number(b, at, v as u32, after)
+}
+
+// The address of the VM that runs, or `-` where none does.
+fn put_where(b: &mut [u8], at: usize, running: u8, address: u32) -> usize
+    requires { ⌜ at + 9 ≤ length (now b) ⌝ }
+    ensures { λ r. ⌜ Puts (whereText running address) (now (b .entry)) at (now (b .exit)) r × (r ≤ at + 9) ⌝ }
+{
+    if running == Answer::NOBODY {
+        return text::put_mark(b, at, 45, 32);
+    }
+    text::put_address(b, at, address, 32)
+}
+
+fn put_runs(b: &mut [u8], at: usize, running: u8, address: u32, delivered: u8) -> usize
+    requires { ⌜ at + 31 ≤ length (now b) ⌝ }
+    ensures { λ r. ⌜ Puts (runsText running address delivered) (now (b .entry)) at (now (b .exit)) r × (r ≤ at + 31) ⌝ }
+{
+    let a1 = put_choice(b, at, running, 32);
+    let a2 = put_where(b, a1, running, address);
+    put_choice(b, a2, delivered, 32)
+}
+
+// Two numbers, and the byte behind the second.
+pub fn put_two(b: &mut [u8], at: usize, m: u32, n: u32, after: u8) -> usize
+    requires { ⌜ at + 22 ≤ length (now b) ⌝ }
+    ensures { λ r. ⌜ Puts (two m n after) (now (b .entry)) at (now (b .exit)) r × (r ≤ at + 22) ⌝ }
+{
+    let second = text::put_number(b, at, m, 32);
+    text::put_number(b, second, n, after)
+}
+
+pub fn put_line(b: &mut [u8], at: usize, n: u32, a: Answer) -> usize
+    requires { ⌜ at + 86 ≤ length (now b) ⌝ }
+    ensures { λ r. ⌜ Puts (lineText n a) (now (b .entry)) at (now (b .exit)) r × (r ≤ at + 86) ⌝ }
+{
+    let told = a.notice;
+    let a1 = put_two(b, at, n, a.refusal as u32, 32);
+    let a2 = put_runs(b, a1, a.running, a.address, a.delivered);
+    let a3 = put_two(b, a2, told.kind as u32, a.result as u32, 32);
+    text::put_number(b, a3, a.removed as u32, 10)
+}
+
+pub fn put_refused(b: &mut [u8], at: usize, fault: u8, offset: u32) -> usize
+    requires { ⌜ at + 29 ≤ length (now b) ⌝ }
+    ensures { λ r. ⌜ Puts (refusedText fault offset) (now (b .entry)) at (now (b .exit)) r × (r ≤ at + 29) ⌝ }
+{
+    let word = text::put_word(b, at, b"config ");
+    put_two(b, word, fault as u32, offset, 10)
+}
+
+pub fn put_cut(b: &mut [u8], at: usize, n: u32) -> usize
+    requires { ⌜ at + 15 ≤ length (now b) ⌝ }
+    ensures { λ r. ⌜ Puts (cutText n) (now (b .entry)) at (now (b .exit)) r × (r ≤ at + 15) ⌝ }
+{
+    let word = text::put_word(b, at, b"cut ");
+    text::put_number(b, word, n, 10)
+}

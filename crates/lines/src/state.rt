@@ -1,0 +1,152 @@
+// The whole state as text, behind the line of the event that left it.
+use crate::line;
+use change::Answer;
+use change::Notice;
+use core::Core;
+use guest::Status;
+use guest::Vm;
+use queue::Queue;
+use table::Clock;
+ghost use Prim.Native.Nat.{min, _+_, _≤_};
+ghost use lib.ListN.{length};
+ghost use mathlib.Core.Path.{_≡_};
+ghost use Rattle.lines.specs.Text.{clockText, entriesText, entryText, frontText, noticeText, queueText, restText, stateText, statesText, vmText, vmsText};
+ghost use Rattle.text.specs.Puts.{Puts};
+
+// The state if `states`, else nothing.
+pub fn put_states(b: &mut [u8], at: usize, states: bool, a: Answer, c: Core) -> usize
+    requires { ⌜ at + 1450 ≤ length (now b) ⌝ }
+    ensures { λ r. ⌜ Puts (statesText states (a .notice) c) (now (b .entry)) at (now (b .exit)) r × (r ≤ at + 1450) ⌝ }
+{
+    if states {
+        let told = a.notice;
+        return put_state(b, at, told, c);
+    }
+    at
+}
+
+fn put_state(b: &mut [u8], at: usize, told: Notice, c: Core) -> usize
+    requires { ⌜ at + 1450 ≤ length (now b) ⌝ }
+    ensures { λ r. ⌜ Puts (stateText told c) (now (b .entry)) at (now (b .exit)) r × (r ≤ at + 1450) ⌝ }
+{
+    let clock = c.clock;
+    let queue = c.queue;
+    let vms = c.vms;
+    let a1 = put_notice(b, at, told);
+    let a2 = put_clock(b, a1, clock, c.running);
+    let a3 = put_queue(b, a2, queue);
+    put_vms(b, a3, vms)
+}
+
+fn put_notice(b: &mut [u8], at: usize, told: Notice) -> usize
+    requires { ⌜ at + 40 ≤ length (now b) ⌝ }
+    ensures { λ r. ⌜ Puts (noticeText told) (now (b .entry)) at (now (b .exit)) r × (r ≤ at + 40) ⌝ }
+{
+    let a1 = text::put_word(b, at, b"notice ");
+    let a2 = line::put_two(b, a1, told.vm as u32, told.code as u32, 32);
+    text::put_number(b, a2, told.detail, 10)
+}
+
+fn put_clock(b: &mut [u8], at: usize, k: Clock, running: u8) -> usize
+    requires { ⌜ at + 60 ≤ length (now b) ⌝ }
+    ensures { λ r. ⌜ Puts (clockText k running) (now (b .entry)) at (now (b .exit)) r × (r ≤ at + 60) ⌝ }
+{
+    let a1 = text::put_word(b, at, b"core ");
+    let a2 = line::put_two(b, a1, k.started as u32, k.ticked as u32, 32);
+    let a3 = line::put_two(b, a2, k.slot as u32, k.left as u32, 32);
+    line::put_choice(b, a3, running, 10)
+}
+
+fn put_queue(b: &mut [u8], at: usize, q: Queue) -> usize
+    requires { ⌜ at + 182 ≤ length (now b) ⌝ }
+    ensures { λ r. ⌜ Puts (queueText q) (now (b .entry)) at (now (b .exit)) r × (r ≤ at + 182) ⌝ }
+{
+    let items = q.items;
+    let a1 = text::put_word(b, at, b"queue");
+    let a2 = put_entries(b, a1, &items, least(q.len));
+    text::put_byte(b, a2, 10)
+}
+
+// How many of the sixteen places are entries.
+fn least(len: u8) -> u8
+    ensures { λ r. ⌜ r ≡ min len 16 ⌝ }
+{
+    if len < Queue::PLACES {
+        len
+    } else {
+        Queue::PLACES
+    }
+}
+
+fn put_entries(b: &mut [u8], at: usize, items: &[u8; 16], n: u8) -> usize
+    requires { ⌜ (n ≤ 16) × (at + 176 ≤ length (now b)) ⌝ }
+    ensures { λ r. ⌜ Puts (entriesText (now (items .entry)) n) (now (b .entry)) at (now (b .exit)) r × (r ≤ at + 176) ⌝ }
+{
+    let m = n as usize;
+    let mut to = at;
+    let mut k: usize = 0;
+    while k < m {
+        to = put_entry(b, to, items[k]);
+        k = k + 1;
+    }
+    to
+}
+
+fn put_entry(b: &mut [u8], at: usize, v: u8) -> usize
+    requires { ⌜ at + 11 ≤ length (now b) ⌝ }
+    ensures { λ r. ⌜ Puts (entryText v) (now (b .entry)) at (now (b .exit)) r × (r ≤ at + 11) ⌝ }
+{
+    let word = text::put_byte(b, at, 32);
+    text::put_decimal(b, word, v as u32)
+}
+
+fn put_vms(b: &mut [u8], at: usize, vms: [Vm; 8]) -> usize
+    requires { ⌜ at + 1168 ≤ length (now b) ⌝ }
+    ensures { λ r. ⌜ Puts (vmsText vms) (now (b .entry)) at (now (b .exit)) r × (r ≤ at + 1168) ⌝ }
+{
+    let mut to = at;
+    let mut k: u32 = 0;
+    while k < 8 {
+        let vm = vms[k as usize];
+        to = put_vm(b, to, k, vm);
+        k = k + 1;
+    }
+    to
+}
+
+fn put_vm(b: &mut [u8], at: usize, k: u32, vm: Vm) -> usize
+    requires { ⌜ at + 146 ≤ length (now b) ⌝ }
+    ensures { λ r. ⌜ Puts (vmText k vm) (now (b .entry)) at (now (b .exit)) r × (r ≤ at + 146) ⌝ }
+{
+    let status = vm.status;
+    let a1 = text::put_word(b, at, b"vm ");
+    let a2 = line::put_two(b, a1, k, vm.standing as u32, 32);
+    let a3 = text::put_address(b, a2, vm.address, 32);
+    let a4 = put_front(b, a3, status);
+    let a5 = put_rest(b, a4, status);
+    line::put_two(b, a5, vm.age, vm.ran, 10)
+}
+
+// F1 to F5.
+fn put_front(b: &mut [u8], at: usize, f: Status) -> usize
+    requires { ⌜ at + 45 ≤ length (now b) ⌝ }
+    ensures { λ r. ⌜ Puts (frontText f) (now (b .entry)) at (now (b .exit)) r × (r ≤ at + 45) ⌝ }
+{
+    let a1 = text::put_address(b, at, f.since, 32);
+    let a2 = text::put_address(b, a1, f.left, 32);
+    let a3 = text::put_address(b, a2, f.enabled, 32);
+    let a4 = text::put_address(b, a3, f.pending, 32);
+    text::put_address(b, a4, f.resume, 32)
+}
+
+// F6 to F10.
+fn put_rest(b: &mut [u8], at: usize, f: Status) -> usize
+    requires { ⌜ at + 45 ≤ length (now b) ⌝ }
+    ensures { λ r. ⌜ Puts (restText f) (now (b .entry)) at (now (b .exit)) r × (r ≤ at + 45) ⌝ }
+{
+    let a1 = text::put_address(b, at, f.reason, 32);
+    let a2 = text::put_address(b, a1, f.previous, 32);
+    let a3 = text::put_address(b, a2, f.restore, 32);
+    let a4 = text::put_address(b, a3, f.ontick, 32);
+    text::put_address(b, a4, f.running, 32)
+}

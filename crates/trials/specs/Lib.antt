@@ -1,0 +1,4 @@
+pub mod Examples
+pub mod Worthless
+pub mod Broken
+pub mod Vectors
