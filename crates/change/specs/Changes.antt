@@ -8,7 +8,7 @@ use Rattle.change.specs.Answers.{errorOf, noNotice, noticeOf}
 use Rattle.change.specs.declared.Change.{Change}
 use Rattle.change.specs.declared.Notice.{Notice}
 use Rattle.guest.specs.Deliver.{backFrom, deliver}
-use Rattle.guest.specs.Record.{endedAs, pend, startedAt}
+use Rattle.guest.specs.Record.{downStanding, endedAs, errorStanding, pend, startedAt}
 use Rattle.guest.specs.declared.Delivery.{Delivery}
 use Rattle.guest.specs.declared.Vm.{Vm}
 use Rattle.queue.specs.Entries.{pushed, removal}
@@ -39,7 +39,7 @@ endingFrom running queue v vm standing notice =
 
 -- D23: the VM ends in error
 abbrev pub failingFrom : ℕ → Queue → ℕ → Vm → ℕ → ℕ → Change
-failingFrom running queue v vm code detail = endingFrom running queue v vm 4 (errorOf v code detail)
+failingFrom running queue v vm code detail = endingFrom running queue v vm errorStanding (errorOf v code detail)
 
 -- D18, D19, A8
 abbrev pub restartingFrom : ℕ → Queue → ℕ → ℕ → Change
@@ -65,6 +65,6 @@ calledFrom running queue noRoom handler v service argument vm =
     pick (eqb service 0) (deliveringFrom running queue v (deliver handler vm))
     (pick (eqb service 1) (deliveringFrom running queue v (deliver handler (backFrom vm)))
     (pick (eqb service 2) (pick (leb argument 31) (deliveringFrom running queue v (deliver handler (pend argument vm))) (failingFrom running queue v vm 2 argument))
-    (pick (eqb service 3) (endingFrom running queue v vm 3 (noticeOf 2 v))
+    (pick (eqb service 3) (endingFrom running queue v vm downStanding (noticeOf 2 v))
     (pick (eqb service 4) (pick noRoom (turnedAwayFrom running queue v vm) (queueingFrom running queue v vm))
     (failingFrom running queue v vm 1 service)))))

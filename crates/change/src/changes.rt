@@ -12,7 +12,7 @@ ghost use Rattle.basis.specs.Nobody.{nobody};
 ghost use Rattle.change.specs.Answers.{errorOf};
 ghost use Rattle.change.specs.Changes.{calledFrom, deliveringFrom, endingFrom, failingFrom, renewedFrom, restartingFrom, runningWithout, turnedAwayFrom};
 ghost use Rattle.guest.specs.Deliver.{deliver};
-ghost use Rattle.guest.specs.Record.{pend};
+ghost use Rattle.guest.specs.Record.{errorStanding, pend};
 ghost use Rattle.queue.specs.Entries.{pushed};
 ghost use Rattle.vms.specs.Tick.{numberOf};
 
@@ -64,7 +64,7 @@ impl Change {
 
     // D23.
     pub fn failing(v: u8, vm: Vm, running: u8, queue: Queue, code: u8, detail: u32) -> Change
-        ensures { λ r. ⌜ r ≡ endingFrom running queue v vm 4 (errorOf v code detail) ⌝ }
+        ensures { λ r. ⌜ r ≡ endingFrom running queue v vm errorStanding (errorOf v code detail) ⌝ }
     {
         let told = Notice::told(3, v, code, detail);
         Change::ending(v, vm, Vm::ERROR, running, queue, told)

@@ -1,8 +1,9 @@
 -- What a value of the struct `Config` is, beside what its rules ask: the premises of theorems about configurations.
 use Prim.Native.Nat.{ℕ, _<_, _^_}
 use lib.ListN.{length}
+use mathlib.Core.Bool.{true}
 use mathlib.Core.Path.{_≡_}
-use Rattle.config.specs.Sizes.{durationAt, entryAt, handlerAt, ownerAt}
+use Rattle.config.specs.Sizes.{durationAt, entryAt, handlerAt, legal, ownerAt}
 use Rattle.config.specs.declared.Config.{Config}
 
 -- eight places for VMs and sixty-four for slots
@@ -20,3 +21,8 @@ pub record Typed (c : Config) : Type 0 where
   pub handler : (k : ℕ) → handlerAt c k < 2 ^ 32
   pub owner : (k : ℕ) → ownerAt c k < 256
   pub duration : (k : ℕ) → durationAt c k < 65536
+
+-- what the demands ask of a configuration: it is legal, and its lists are as long as its arrays
+pub record Given (g : Config) : Type 0 where
+  pub legal : legal g ≡ true
+  pub sized : Sized g

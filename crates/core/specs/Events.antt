@@ -14,7 +14,7 @@ use Rattle.core.specs.declared.Core.{Core}
 use Rattle.core.specs.declared.Stepped.{Stepped}
 use Rattle.event.specs.declared.Event.the-variants.{Call, Extra, Fault, Restart, Shutdown, Start, Stop, Tick, Write}
 use Rattle.event.specs.declared.Event.{Event}
-use Rattle.guest.specs.Record.{pend, savedAt}
+use Rattle.guest.specs.Record.{pend, savedAt, stoppedStanding}
 use Rattle.guest.specs.Write.{write}
 use Rattle.guest.specs.declared.Vm.{Vm}
 use Rattle.queue.specs.Entries.{entries, frontOf, ofList, rest}
@@ -55,7 +55,7 @@ called c v = calledFrom (c .running) (c .queue) (full c) (handlerAt (c .config) 
 unfoldable pub done : Core → Event → Stepped
 done c Start = answering (startCore c) nobody noNotice 0 0
 done c (Tick at) = answering (tickCore c at) (tickTurn c at .number) noNotice 0 0
-done c (Stop v) = changedBy c (ending c v (vmAt c v) 2 (noticeOf 1 v))
+done c (Stop v) = changedBy c (ending c v (vmAt c v) stoppedStanding (noticeOf 1 v))
 done c (Shutdown v) = changedBy c (renewed c v (pend 11 (vmAt c v)) nobody)
 done c (Restart v) = changedBy c (restarting c v)
 done c (Extra v) = changedBy c (queueing c v (vmAt c v))

@@ -10,6 +10,7 @@ use Rattle.basis.proofs.Laws.{false-true}
 use Rattle.change.specs.Changes.{queueWithout}
 use Rattle.change.specs.declared.Change.{Change}
 use Rattle.config.proofs.Legality.{legal-is}
+use Rattle.config.specs.Ranges.{Given}
 use Rattle.config.specs.Sizes.{handlerAt, isSpare}
 use Rattle.config.specs.declared.Config.{Config}
 use Rattle.core.specs.Changes.{changedBy}
@@ -24,7 +25,7 @@ use Rattle.event.specs.declared.Event.{Event}
 use Rattle.guest.specs.Record.{endedAs, fresh, isReady, savedAt}
 use Rattle.history.proofs.Counts.{eqb-same}
 use Rattle.history.proofs.Steps.{Reached, tick-owner}
-use Rattle.history.specs.History.{Given, Moment, moment, momentOf, ticking}
+use Rattle.history.specs.History.{Moment, moment, momentOf, ticking}
 use Rattle.history.specs.Moments.{asks, ends, naming, spare}
 use Rattle.history.specs.Queueing.{Add, Effect, Keep, Remove, Take, affected, effect, removedFrom}
 use Rattle.queue.proofs.Meaning.{entries-popped, entries-pushed, entries-without}

@@ -2,4 +2,3 @@ pub mod Counts
 pub mod Steps
 pub mod Lawful
 pub mod Ticking
-pub mod Images

@@ -7,6 +7,7 @@ use native.Mathlib.Numerals.{add-one}
 use native.Mathlib.Omega.{arith}
 use Rattle.basis.specs.Choice.{pick}
 use Rattle.config.proofs.Legality.{legal-is}
+use Rattle.config.specs.Ranges.{Given}
 use Rattle.config.specs.Sizes.{ownerAt}
 use Rattle.config.specs.declared.Config.{Config}
 use Rattle.core.specs.Events.{done, stepOf, tickClock, tickOwner}
@@ -20,7 +21,7 @@ use Rattle.core_laws.proofs.View.{done-case, step-case}
 use Rattle.event.specs.Kinds.{isTick}
 use Rattle.event.specs.declared.Event.the-variants.{Start}
 use Rattle.event.specs.declared.Event.{Event}
-use Rattle.history.specs.History.{Behaviour, Each, Given, Moment, countAfter, moment, momentOf, moments, stateAfter, stateOf, ticksAfter, ticksOf}
+use Rattle.history.specs.History.{Behaviour, Each, Moment, countAfter, moment, momentOf, moments, stateAfter, stateOf, ticksAfter, ticksOf}
 use Rattle.table.proofs.Place.{placed-then, stands-same}
 use Rattle.table.specs.Place.{Placed, Stands, tableAt}
 use Rattle.table.specs.Position.{nextClock}

@@ -10,7 +10,7 @@ use native.Mathlib.Omega.{arith}
 use Rattle.basis.specs.Choice.{pick}
 use Rattle.basis.specs.Numbers.{Bytes}
 use Rattle.config.proofs.Legality.{legal-is}
-use Rattle.config.specs.Ranges.{Typed}
+use Rattle.config.specs.Ranges.{Given, Typed}
 use Rattle.config.specs.Sizes.{legal}
 use Rattle.config.specs.declared.Config.{Config}
 use Rattle.image_laws.proofs.Back.{back-bytes, back-legal, back-typed}
@@ -88,3 +88,12 @@ write-keeps c b h = go (legal c) (ltb (length b) (length (image c))) h
     go true true f = refl
     go true false f = absurd (f refl)
     go false y f = refl
+
+-- an accepted image gives what the demands ask of a configuration
+pub given : (bs : List ℕ) → Bytes bs → readImage bs .fault ≡ 0 → Given (readImage bs .config)
+given bs h e =
+    let w = read-whole bs e in
+    record {
+      legal = read-legal bs (readImage bs .config) h w;
+      sized = read-typed bs (readImage bs .config) h w .sized;
+    }

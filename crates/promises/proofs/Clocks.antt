@@ -15,6 +15,7 @@ use Rattle.basis.specs.Choice.{pick}
 use Rattle.basis.specs.Nobody.{nobody}
 use Rattle.change.specs.Answers.{noticeOf}
 use Rattle.change.specs.declared.Change.{Change}
+use Rattle.config.specs.Ranges.{Given}
 use Rattle.config.specs.Sizes.{entryAt, handlerAt}
 use Rattle.config.specs.declared.Config.{Config}
 use Rattle.core.specs.Changes.{changedBy, ending, failing, queueing, renewed}
@@ -32,7 +33,7 @@ use Rattle.guest.specs.Record.{endedAs, fresh, pend, savedAt, startedAt}
 use Rattle.guest.specs.Write.{write}
 use Rattle.guest.specs.declared.Vm.{Vm}
 use Rattle.history.proofs.Steps.{Reached, at-fresh, ours-at, step-at, vm-small}
-use Rattle.history.specs.History.{Behaviour, Given, Moment, history, moment, momentOf, moments, next, sinceLast, stateAfter, stateOf, ticking, ticksAfter, ticksOf}
+use Rattle.history.specs.History.{Behaviour, Moment, history, moment, momentOf, moments, next, sinceLast, stateAfter, stateOf, ticking, ticksAfter, ticksOf}
 use Rattle.history.specs.Moments.{begins, ranIn}
 use Rattle.promises.proofs.Starting.{count-few, start-ready}
 use Rattle.promises.proofs.Ticks.{tick-age, tick-ran, tick-shows}

@@ -12,6 +12,7 @@ use Rattle.basis.specs.Choice.{both}
 use Rattle.basis.specs.Nobody.{nobody}
 use Rattle.change.specs.Changes.{calledFrom, deliveringFrom}
 use Rattle.change.specs.declared.Change.{Change}
+use Rattle.config.specs.Ranges.{Given}
 use Rattle.config.specs.Sizes.{handlerAt}
 use Rattle.config.specs.declared.Config.{Config}
 use Rattle.core.specs.Changes.{changedBy}
@@ -35,7 +36,7 @@ use Rattle.guest.specs.declared.Found.the-variants.{At, Nothing}
 use Rattle.guest.specs.declared.Status.{Status}
 use Rattle.guest.specs.declared.Vm.{Vm}
 use Rattle.history.proofs.Steps.{Reached, ours-at, vm-small}
-use Rattle.history.specs.History.{Given, Moment, moment, momentOf, stateOf, ticksOf}
+use Rattle.history.specs.History.{Moment, moment, momentOf, stateOf, ticksOf}
 use Rattle.promises.proofs.Starting.{count-few}
 use Rattle.promises.proofs.Ticks.{passedOf, tick-enters, tick-number, tick-passes, tick-silent}
 use Rattle.promises.specs.Demands.{Delivered, Delivers, DeliversAtCall, DeliversAtTick, DeliversBy, DeliversOf, Enters, GoesOn, Offer, callDelivers, dueOf, tickOffer}

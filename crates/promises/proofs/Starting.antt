@@ -10,6 +10,7 @@ use native.Mathlib.Omega.{arith}
 use Rattle.basis.proofs.Laws.{false-true}
 use Rattle.basis.specs.Nobody.{nobody}
 use Rattle.config.proofs.Legality.{legal-is}
+use Rattle.config.specs.Ranges.{Given}
 use Rattle.config.specs.Sizes.{entryAt}
 use Rattle.config.specs.declared.Config.{Config}
 use Rattle.core.specs.Events.{done, startCore, stepOf}
@@ -28,7 +29,7 @@ use Rattle.event.specs.declared.Event.the-variants.{Restart, Start}
 use Rattle.event.specs.declared.Event.{Event}
 use Rattle.guest.specs.Record.{fresh, startedAt}
 use Rattle.history.proofs.Steps.{Reached, ours-at}
-use Rattle.history.specs.History.{Given, moment, momentOf, next, stateAfter, stateOf, ticksOf, went}
+use Rattle.history.specs.History.{moment, momentOf, next, stateAfter, stateOf, ticksOf, went}
 use Rattle.promises.specs.Demands.{Starts, StaysSound}
 use Rattle.vms.proofs.Laws.{each-at}
 

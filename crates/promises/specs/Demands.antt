@@ -11,6 +11,7 @@ use Rattle.basis.specs.Nobody.{nobody}
 use Rattle.change.specs.Answers.{errorOf, noNotice, noticeOf, quietly}
 use Rattle.change.specs.declared.Answer.{Answer}
 use Rattle.change.specs.declared.Notice.{Notice}
+use Rattle.config.specs.Ranges.{Given}
 use Rattle.config.specs.Sizes.{entryAt, handlerAt}
 use Rattle.config.specs.declared.Config.{Config}
 use Rattle.core.specs.Refusals.{strayFault, strayWrite}
@@ -25,7 +26,7 @@ use Rattle.guest.specs.Record.{startedAt}
 use Rattle.guest.specs.declared.Found.the-variants.{At, Nothing}
 use Rattle.guest.specs.declared.Found.{Found}
 use Rattle.guest.specs.declared.Vm.{Vm}
-use Rattle.history.specs.History.{Behaviour, Each, Given, Moment, after, history, next, sinceLast, stateOf, stretch, ticking, ticksOf, times, went}
+use Rattle.history.specs.History.{Behaviour, Each, Moment, after, history, next, sinceLast, stateOf, stretch, ticking, ticksOf, times, went}
 use Rattle.history.specs.Moments.{asks, begins, ends, handed, naming, ranIn, runs, spare}
 use Rattle.history.specs.Queueing.{Follows, effect, marked, plain, removedFrom, removedIn, removes, servedIn}
 use Rattle.queue.specs.Entries.{entries, entriesOf}

@@ -7,7 +7,7 @@ use Rattle.basis.specs.Numbers.{Bytes}
 use Rattle.core.specs.Events.{innerOf, stepOf}
 use Rattle.core.specs.State.{freshCore}
 use Rattle.core_laws.proofs.Always.{Good, good-fresh, good-step, inner-good}
-use Rattle.history.proofs.Images.{given}
+use Rattle.image_laws.proofs.Theorems.{given}
 use Rattle.image_reader.specs.Reader.{readImage}
 use Rattle.replay.specs.Run.{runBy, runText, stateRunText}
 use Rattle.replay_laws.proofs.Same.{run-same}

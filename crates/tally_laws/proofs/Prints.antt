@@ -20,8 +20,8 @@ use Rattle.event.specs.declared.Event.{Event}
 use Rattle.events.proofs.Log.{events-few}
 use Rattle.events.specs.Log.{eventsFrom, longest}
 use Rattle.history.proofs.Counts.{num, times-cons, times-nil}
-use Rattle.history.proofs.Images.{given}
 use Rattle.history.specs.History.{Behaviour, Moment, history, moment, moments, ticking, ticksAfter, times}
+use Rattle.image_laws.proofs.Theorems.{given}
 use Rattle.image_reader.specs.Reader.{readImage}
 use Rattle.lines.specs.Text.{refusedText}
 use Rattle.tally.proofs.Growing.{with-none}

@@ -14,6 +14,7 @@ use Rattle.basis.proofs.Laws.{both-left, both-right}
 use Rattle.basis.specs.Choice.{both, pick}
 use Rattle.basis.specs.Nobody.{nobody}
 use Rattle.config.proofs.Legality.{legal-is}
+use Rattle.config.specs.Ranges.{Given}
 use Rattle.config.specs.Sizes.{isSpare}
 use Rattle.config.specs.declared.Config.{Config}
 use Rattle.core.specs.Events.{stepOf}
@@ -28,7 +29,7 @@ use Rattle.history.proofs.Counts.{num, times-cons, times-nil}
 use Rattle.history.proofs.Lawful.{lawful, runnerBy}
 use Rattle.history.proofs.Steps.{Reached, at-fresh, each-of, step-at}
 use Rattle.history.proofs.Ticking.{named-runs}
-use Rattle.history.specs.History.{Each, Given, Moment, history, moment, ticking, ticksAfter, times}
+use Rattle.history.specs.History.{Each, Moment, history, moment, ticking, ticksAfter, times}
 use Rattle.history.specs.Moments.{naming}
 use Rattle.table.specs.Place.{tableAt}
 use Rattle.tally.specs.Figures.{idleTick, missedTick, spareTick, tableTick}

@@ -8,6 +8,7 @@ use native.Mathlib.Omega.{arith}
 use Rattle.basis.proofs.Laws.{false-true}
 use Rattle.basis.specs.Count.{every, joined, some, upTo}
 use Rattle.change.specs.Changes.{calledFrom, runningWithout}
+use Rattle.config.specs.Ranges.{Given}
 use Rattle.config.specs.Sizes.{durationsFit, hasSlot, legal, ownersFit, slotsRest, vmsRest, vmsServed}
 use Rattle.core.specs.Events.{done, innerOf, startCore, stepOf, tickClock, tickQueue, tickTurn}
 use Rattle.core.specs.Refusals.{refusalOf, refused, rowOf}
@@ -20,7 +21,7 @@ use Rattle.guest.specs.Deliver.{deliver, due, enter, shown}
 use Rattle.guest.specs.Record.{isBlank, isFresh, pend}
 use Rattle.guest.specs.Write.{isField, stored, write}
 use Rattle.guest.specs.declared.Vm.{Vm}
-use Rattle.history.specs.History.{Given, after, countAfter, history, moments, next, sinceLast, stateAfter, stateOf, times}
+use Rattle.history.specs.History.{after, countAfter, history, moments, next, sinceLast, stateAfter, stateOf, times}
 use Rattle.history.specs.Moments.{asks, begins, ends, handed, naming, ranIn, spare}
 use Rattle.history.specs.Queueing.{effect, entriesNot, marked, plain, removedIn, removes, servedIn}
 use Rattle.promises.specs.Demands.{Accounts, Clocks, Delivers, Refuses, Removing, Slices, Starts, Table, Waiting, firstOf, linesOf}

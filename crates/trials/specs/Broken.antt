@@ -8,7 +8,7 @@ use Rattle.core.specs.Sound.{configSound, fewQueued, idleAtFirst, leftSound, nu
 use Rattle.core.specs.State.{vmAt, withClock, withConfig, withQueue, withRunning, withVm}
 use Rattle.core.specs.declared.Core.{Core}
 use Rattle.event.specs.declared.Event.the-variants.{Extra, Start, Tick}
-use Rattle.guest.specs.Record.{endedAs, fresh, older}
+use Rattle.guest.specs.Record.{endedAs, fresh, older, stoppedStanding}
 use Rattle.history.specs.History.{stateOf}
 use Rattle.queue.specs.Entries.{ofList}
 use Rattle.table.specs.declared.Clock.{Clock}
@@ -69,7 +69,7 @@ brokenStates =
     ∷ broken (withClock good (clockWith 1 1 0 3)) (true ∷ true ∷ true ∷ true ∷ true ∷ true ∷ true ∷ true ∷ false ∷ true ∷ true ∷ true ∷ [])
     ∷ broken (withClock good (clockWith 1 1 0 0)) (true ∷ true ∷ true ∷ true ∷ true ∷ true ∷ true ∷ true ∷ false ∷ true ∷ true ∷ true ∷ [])
     -- W10: VM 0 runs and is stopped
-    ∷ broken (withVm good 0 (endedAs 2 (vmAt good 0))) (true ∷ true ∷ true ∷ true ∷ true ∷ true ∷ true ∷ true ∷ true ∷ false ∷ true ∷ true ∷ [])
+    ∷ broken (withVm good 0 (endedAs stoppedStanding (vmAt good 0))) (true ∷ true ∷ true ∷ true ∷ true ∷ true ∷ true ∷ true ∷ true ∷ false ∷ true ∷ true ∷ [])
     -- W11: VM 1 runs in a slot of VM 0
     ∷ broken (withRunning good 1) (true ∷ true ∷ true ∷ true ∷ true ∷ true ∷ true ∷ true ∷ true ∷ true ∷ false ∷ true ∷ [])
     -- W12: a standing of 5, and a flag of 2

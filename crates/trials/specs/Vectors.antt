@@ -10,7 +10,7 @@ use Rattle.core.specs.declared.Core.{Core}
 use Rattle.core.specs.declared.Stepped.{Stepped}
 use Rattle.event.specs.declared.Event.the-variants.{Call, Extra, Fault, Restart, Start, Stop, Tick, Write}
 use Rattle.event.specs.declared.Event.{Event}
-use Rattle.guest.specs.Record.{blank}
+use Rattle.guest.specs.Record.{blank, readyStanding}
 use Rattle.guest.specs.declared.Status.{Status}
 use Rattle.history.specs.History.{Moment, history, stateOf}
 use Rattle.image_reader.specs.Reader.{readImage}
@@ -89,7 +89,7 @@ callShown x y e = getD (map shownBy (history stepOf (example 1) (Start ∷ Tick 
 abbrev pub ranState : ℕ → Core
 ranState n =
     withVm (stateOf stepOf (example 1) (Start ∷ [])) 0
-    (record { standing = 1; address = 0x1000; status = blank; age = 0; ran = n })
+    (record { standing = readyStanding; address = 0x1000; status = blank; age = 0; ran = n })
 
 abbrev pub ranShown : Stepped → List ℕ
 ranShown s = s .answer .running ∷ vmAt (s .core) 0 .ran ∷ vmAt (s .core) 0 .status .running ∷ []
