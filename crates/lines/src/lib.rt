@@ -1,13 +1,12 @@
-// What is printed of a run, piece by piece: an event's line, the whole state behind it, what is said of an image and of a log (N3 to N7).
+// What is printed of a run, piece by piece: an event's line, what is said of an image and of a log (N3 to N7).
 // Each function puts its text from a place of a buffer on and answers the place behind it. They are building blocks of
 // other crates, not entry points: each requires room in the buffer for what it puts.
 mod hex;
 mod line;
-mod state;
 
 pub use hex::put_image;
+pub use line::put_choice;
 pub use line::put_cut;
 pub use line::put_line;
 pub use line::put_refused;
 pub use line::put_two;
-pub use state::put_states;

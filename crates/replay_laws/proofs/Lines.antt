@@ -12,8 +12,9 @@ use Rattle.events.proofs.Theorems.{end-is, take-inside}
 use Rattle.events.specs.Reader.{readAt}
 use Rattle.events.specs.declared.Next.the-variants.{End, Refuse, Take}
 use Rattle.events.specs.declared.Next.{Next}
-use Rattle.lines.specs.Text.{cutText, eventText}
+use Rattle.lines.specs.Text.{cutText}
 use Rattle.replay.specs.Run.{Stepping, linesBy, logText, onward}
+use Rattle.state_lines.specs.State.{eventText}
 
 module _ (f : Stepping) (states : Bool) (s : List ℕ) where
   lines-past : (k : ℕ) (c : Core) (at n : ℕ) → length s ≤ at → linesBy f states s k c at n ≡ []

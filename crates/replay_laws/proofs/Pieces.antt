@@ -15,7 +15,7 @@ use Rattle.core.specs.declared.Core.{Core}
 use Rattle.events.specs.Reader.{readAt}
 use Rattle.events.specs.declared.Next.the-variants.{End, Refuse, Take}
 use Rattle.events.specs.declared.Next.{Next}
-use Rattle.lines.specs.Text.{cutText, eventText, refusedText}
+use Rattle.lines.specs.Text.{cutText, refusedText}
 use Rattle.lines.specs.Words.{longLine}
 use Rattle.replay.specs.Piece.{Filled, Piece, enough, goesOn, pieceAt, pieceBy, piecesBy, stagePiece}
 use Rattle.replay.specs.Run.{Stepping, logText, textBy, textFrom}
@@ -24,6 +24,7 @@ use Rattle.replay.specs.declared.Stage.the-variants.{Ended, Long, Refused, Runn
 use Rattle.replay.specs.declared.Stage.{Stage}
 use Rattle.replay_laws.proofs.Lines.{log-cut, log-end, log-take}
 use Rattle.replay_laws.specs.Fillings.{fillings}
+use Rattle.state_lines.specs.State.{eventText}
 
 module _ (f : Stepping) (states : Bool) (s : List ℕ) where
   abbrev Split : List ℕ → Piece → Type 0

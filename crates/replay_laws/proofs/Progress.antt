@@ -14,12 +14,12 @@ use Rattle.events.proofs.Theorems.{take-inside}
 use Rattle.events.specs.Reader.{readAt}
 use Rattle.events.specs.declared.Next.the-variants.{End, Refuse, Take}
 use Rattle.events.specs.declared.Next.{Next}
-use Rattle.lines.specs.Text.{eventText}
 use Rattle.replay.specs.Piece.{Piece, enough, goesOn, pieceAt, pieceBy, piecesBy, stagePiece}
 use Rattle.replay.specs.Run.{Stepping}
 use Rattle.replay.specs.declared.Place.{Place}
 use Rattle.replay.specs.declared.Stage.the-variants.{Ended, Running}
 use Rattle.replay_laws.specs.Fillings.{fillings}
+use Rattle.state_lines.specs.State.{eventText}
 
 -- a place in the log s at which a run goes on, not before `from`. A record has a byte at least, so an event's number is at most its place and one
 pub record On (s : List ℕ) (from : ℕ) (p : Place) : Type 0 where

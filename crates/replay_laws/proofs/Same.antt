@@ -13,12 +13,11 @@ use Rattle.events.specs.Reader.{readAt}
 use Rattle.events.specs.declared.Next.the-variants.{End, Refuse, Take}
 use Rattle.events.specs.declared.Next.{Next}
 use Rattle.image_reader.specs.Reader.{readImage}
-use Rattle.image_writer.specs.Writer.{image}
-use Rattle.lines.specs.Text.{eventText}
 use Rattle.replay.specs.Run.{Stepping, judgedAs, linesBy, onward, runBy, startOf, textBy, textFrom}
 use Rattle.replay.specs.declared.Place.{Place}
 use Rattle.replay.specs.declared.Stage.the-variants.{Ended, Long, Refused, Running}
 use Rattle.replay.specs.declared.Stage.{Stage}
+use Rattle.state_lines.specs.State.{eventText}
 
 module _ (f g : Stepping) (P : Core → Type 0) (agree : (c : Core) (e : Event) → P c → f c e ≡ g c e) (keeps : (c : Core) (e : Event) → P c → P (g c e .core)) where
   lines-same : (states : Bool) (s : List ℕ) (k : ℕ) (c : Core) (at n : ℕ) → P c → linesBy f states s k c at n ≡ linesBy g states s k c at n

@@ -1,5 +1,4 @@
-// The whole state as text, behind the line of the event that left it.
-use crate::line;
+// The whole state as lines, behind that of the event that left it. The functions ask for room in the buffer, as those of `lines` do.
 use change::Answer;
 use change::Notice;
 use core::Core;
@@ -10,7 +9,7 @@ use table::Clock;
 ghost use Prim.Native.Nat.{min, _+_, _≤_};
 ghost use lib.ListN.{length};
 ghost use mathlib.Core.Path.{_≡_};
-ghost use Rattle.lines.specs.Text.{clockText, entriesText, entryText, frontText, noticeText, queueText, restText, stateText, statesText, vmText, vmsText};
+ghost use Rattle.state_lines.specs.State.{clockText, entriesText, entryText, fieldsText, fiveText, noticeText, queueText, stateText, statesText, vmText, vmsText};
 ghost use Rattle.text.specs.Puts.{Puts};
 
 // The state if `states`, else nothing.
@@ -43,7 +42,7 @@ fn put_notice(b: &mut [u8], at: usize, told: Notice) -> usize
     ensures { λ r. ⌜ Puts (noticeText told) (now (b .entry)) at (now (b .exit)) r × (r ≤ at + 40) ⌝ }
 {
     let a1 = text::put_word(b, at, b"notice ");
-    let a2 = line::put_two(b, a1, told.vm as u32, told.code as u32, 32);
+    let a2 = lines::put_two(b, a1, told.vm as u32, told.code as u32, 32);
     text::put_number(b, a2, told.detail, 10)
 }
 
@@ -52,9 +51,9 @@ fn put_clock(b: &mut [u8], at: usize, k: Clock, running: u8) -> usize
     ensures { λ r. ⌜ Puts (clockText k running) (now (b .entry)) at (now (b .exit)) r × (r ≤ at + 60) ⌝ }
 {
     let a1 = text::put_word(b, at, b"core ");
-    let a2 = line::put_two(b, a1, k.started as u32, k.ticked as u32, 32);
-    let a3 = line::put_two(b, a2, k.slot as u32, k.left as u32, 32);
-    line::put_choice(b, a3, running, 10)
+    let a2 = lines::put_two(b, a1, k.started as u32, k.ticked as u32, 32);
+    let a3 = lines::put_two(b, a2, k.slot as u32, k.left as u32, 32);
+    lines::put_choice(b, a3, running, 10)
 }
 
 fn put_queue(b: &mut [u8], at: usize, q: Queue) -> usize
@@ -120,33 +119,36 @@ fn put_vm(b: &mut [u8], at: usize, k: u32, vm: Vm) -> usize
 {
     let status = vm.status;
     let a1 = text::put_word(b, at, b"vm ");
-    let a2 = line::put_two(b, a1, k, vm.standing as u32, 32);
+    let a2 = lines::put_two(b, a1, k, vm.standing as u32, 32);
     let a3 = text::put_address(b, a2, vm.address, 32);
-    let a4 = put_front(b, a3, status);
-    let a5 = put_rest(b, a4, status);
-    line::put_two(b, a5, vm.age, vm.ran, 10)
+    let a4 = put_fields(b, a3, status);
+    lines::put_two(b, a4, vm.age, vm.ran, 10)
 }
 
-// F1 to F5.
-fn put_front(b: &mut [u8], at: usize, f: Status) -> usize
-    requires { ⌜ at + 45 ≤ length (now b) ⌝ }
-    ensures { λ r. ⌜ Puts (frontText f) (now (b .entry)) at (now (b .exit)) r × (r ≤ at + 45) ⌝ }
+// F1 to F10.
+fn put_fields(b: &mut [u8], at: usize, f: Status) -> usize
+    requires { ⌜ at + 90 ≤ length (now b) ⌝ }
+    ensures { λ r. ⌜ Puts (fieldsText f) (now (b .entry)) at (now (b .exit)) r × (r ≤ at + 90) ⌝ }
 {
-    let a1 = text::put_address(b, at, f.since, 32);
-    let a2 = text::put_address(b, a1, f.left, 32);
-    let a3 = text::put_address(b, a2, f.enabled, 32);
-    let a4 = text::put_address(b, a3, f.pending, 32);
-    text::put_address(b, a4, f.resume, 32)
+    let half = put_five(b, at, f.since, f.left, f.enabled, f.pending, f.resume);
+    put_five(
+        b,
+        half,
+        f.reason,
+        f.previous,
+        f.restore,
+        f.ontick,
+        f.running,
+    )
 }
 
-// F6 to F10.
-fn put_rest(b: &mut [u8], at: usize, f: Status) -> usize
+fn put_five(b: &mut [u8], at: usize, v: u32, w: u32, x: u32, y: u32, z: u32) -> usize
     requires { ⌜ at + 45 ≤ length (now b) ⌝ }
-    ensures { λ r. ⌜ Puts (restText f) (now (b .entry)) at (now (b .exit)) r × (r ≤ at + 45) ⌝ }
+    ensures { λ r. ⌜ Puts (fiveText v w x y z) (now (b .entry)) at (now (b .exit)) r × (r ≤ at + 45) ⌝ }
 {
-    let a1 = text::put_address(b, at, f.reason, 32);
-    let a2 = text::put_address(b, a1, f.previous, 32);
-    let a3 = text::put_address(b, a2, f.restore, 32);
-    let a4 = text::put_address(b, a3, f.ontick, 32);
-    text::put_address(b, a4, f.running, 32)
+    let a1 = text::put_address(b, at, v, 32);
+    let a2 = text::put_address(b, a1, w, 32);
+    let a3 = text::put_address(b, a2, x, 32);
+    let a4 = text::put_address(b, a3, y, 32);
+    text::put_address(b, a4, z, 32)
 }

@@ -1,9 +1,9 @@
 -- Five addresses.
 use borrow.Author.Needs.{needs}
 use native.Mathlib.Omega.{arith}
-use Rattle.lines.proofs.state.put_rest.Statement.{statement}
-use Rattle.lines.proofs.state.put_rest.Tie as tie
-use Rattle.lines.specs.Text.{restText}
+use Rattle.state_lines.proofs.put_five.Statement.{statement}
+use Rattle.state_lines.proofs.put_five.Tie as tie
+use Rattle.state_lines.specs.State.{fiveText}
 use Rattle.text.proofs.Puts.{puts-then}
 
 put-address-requires : tie.Need-put-address-requires
@@ -25,11 +25,11 @@ same-length : tie.Need-same-length
 same-length c = search needs
 
 returns : tie.Need-returns
-unfolding restText
+unfolding fiveText
 returns c = (puts-then (c .before .before .before .before .before .before .before .before .before .before .before .before .before .before .before .before .before .before .put-address .ensures .0) (puts-then (c .before .before .before .before .before .before .before .before .before .before .before .before .before .before .put-address2 .ensures .0) (puts-then (c .before .before .before .before .before .before .before .before .before .before .put-address3 .ensures .0) (puts-then (c .before .before .before .before .before .before .put-address4 .ensures .0) (c .before .before .put-address5 .ensures .0)))), omega (arith, c .before .before .before .before .before .before .before .before .before .before .before .before .before .before .before .before .before .before .put-address .ensures .1, c .before .before .before .before .before .before .before .before .before .before .before .before .before .before .put-address2 .ensures .1, c .before .before .before .before .before .before .before .before .before .before .put-address3 .ensures .1, c .before .before .before .before .before .before .put-address4 .ensures .1, c .before .before .put-address5 .ensures .1))
 
-pub put-rest-spec : {M : Type 1} → statement M
-put-rest-spec =
+pub put-five-spec : {M : Type 1} → statement M
+put-five-spec =
     tie.close
     (tie.spec
     put-address-requires

@@ -6,10 +6,10 @@ use mathlib.Core.Path.{refl, _∙_, _≡_}
 use native.Mathlib.Omega.{arith}
 use Rattle.basis.specs.Count.{joined}
 use Rattle.guest.specs.Record.{fresh}
 use Rattle.lines.proofs.Texts.{joined-end, joined-more, joined-none}
-use Rattle.lines.proofs.state.put_vms.Statement.{statement}
-use Rattle.lines.proofs.state.put_vms.Tie as tie
-use Rattle.lines.specs.Text.{vmText, vmsText}
+use Rattle.state_lines.proofs.put_vms.Statement.{statement}
+use Rattle.state_lines.proofs.put_vms.Tie as tie
+use Rattle.state_lines.specs.State.{vmText, vmsText}
 use Rattle.text.specs.Puts.{Puts}
 
 abbrev Inv-loop : tie.InvT-loop

@@ -1,9 +1,9 @@
 -- The word and three numbers.
 use borrow.Author.Needs.{needs}
 use native.Mathlib.Omega.{arith}
-use Rattle.lines.proofs.state.put_notice.Statement.{statement}
-use Rattle.lines.proofs.state.put_notice.Tie as tie
-use Rattle.lines.specs.Text.{noticeText}
+use Rattle.state_lines.proofs.put_notice.Statement.{statement}
+use Rattle.state_lines.proofs.put_notice.Tie as tie
+use Rattle.state_lines.specs.State.{noticeText}
 use Rattle.text.proofs.Puts.{puts-then}
 
 slice-aggregate-put-word : tie.Need-slice-aggregate-put-word

@@ -1,8 +1,8 @@
 -- A space and the number.
 use borrow.Author.Needs.{needs}
 use native.Mathlib.Omega.{arith}
-use Rattle.lines.proofs.state.put_entry.Statement.{statement}
-use Rattle.lines.proofs.state.put_entry.Tie as tie
+use Rattle.state_lines.proofs.put_entry.Statement.{statement}
+use Rattle.state_lines.proofs.put_entry.Tie as tie
 use Rattle.text.proofs.Puts.{puts-then}
 
 put-byte-requires : tie.Need-put-byte-requires

@@ -1,9 +1,9 @@
 -- The four parts of a state.
 use borrow.Author.Needs.{needs}
 use native.Mathlib.Omega.{arith}
-use Rattle.lines.proofs.state.put_state.Statement.{statement}
-use Rattle.lines.proofs.state.put_state.Tie as tie
-use Rattle.lines.specs.Text.{stateText}
+use Rattle.state_lines.proofs.put_state.Statement.{statement}
+use Rattle.state_lines.proofs.put_state.Tie as tie
+use Rattle.state_lines.specs.State.{stateText}
 use Rattle.text.proofs.Puts.{puts-then}
 
 put-notice-requires : tie.Need-put-notice-requires

@@ -1,10 +1,10 @@
 -- One or nothing.
 use borrow.Author.Needs.{needs}
 use native.Mathlib.Omega.{arith}
 use Rattle.lines.proofs.Texts.{puts-none}
-use Rattle.lines.proofs.state.put_states.Statement.{statement}
-use Rattle.lines.proofs.state.put_states.Tie as tie
-use Rattle.lines.specs.Text.{statesText}
+use Rattle.state_lines.proofs.put_states.Statement.{statement}
+use Rattle.state_lines.proofs.put_states.Tie as tie
+use Rattle.state_lines.specs.State.{statesText}
 
 put-state-requires : tie.Need-put-state-requires
 put-state-requires c κs = search needs

@@ -1,9 +1,9 @@
 -- The word, four numbers and the VM.
 use borrow.Author.Needs.{needs}
 use native.Mathlib.Omega.{arith}
-use Rattle.lines.proofs.state.put_clock.Statement.{statement}
-use Rattle.lines.proofs.state.put_clock.Tie as tie
-use Rattle.lines.specs.Text.{clockText}
+use Rattle.state_lines.proofs.put_clock.Statement.{statement}
+use Rattle.state_lines.proofs.put_clock.Tie as tie
+use Rattle.state_lines.specs.State.{clockText}
 use Rattle.text.proofs.Puts.{puts-then}
 
 slice-aggregate-put-word : tie.Need-slice-aggregate-put-word

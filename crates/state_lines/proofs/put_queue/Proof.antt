@@ -1,9 +1,9 @@
 -- The word, the entries, the line's end.
 use borrow.Author.Needs.{needs}
 use native.Mathlib.Omega.{arith}
-use Rattle.lines.proofs.state.put_queue.Statement.{statement}
-use Rattle.lines.proofs.state.put_queue.Tie as tie
-use Rattle.lines.specs.Text.{queueText}
+use Rattle.state_lines.proofs.put_queue.Statement.{statement}
+use Rattle.state_lines.proofs.put_queue.Tie as tie
+use Rattle.state_lines.specs.State.{queueText}
 use Rattle.text.proofs.Puts.{puts-then}
 
 slice-aggregate-put-word : tie.Need-slice-aggregate-put-word

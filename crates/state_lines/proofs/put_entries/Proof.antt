@@ -4,10 +4,10 @@ use borrow.Author.Needs.{needs}
 use lib.ListN.{length}
 use mathlib.Core.Path.{refl, _∙_, _≡_}
 use native.Mathlib.Omega.{arith}
 use Rattle.lines.proofs.Texts.{joined-end, joined-more, joined-none}
-use Rattle.lines.proofs.state.put_entries.Statement.{statement}
-use Rattle.lines.proofs.state.put_entries.Tie as tie
-use Rattle.lines.specs.Text.{entriesText}
+use Rattle.state_lines.proofs.put_entries.Statement.{statement}
+use Rattle.state_lines.proofs.put_entries.Tie as tie
+use Rattle.state_lines.specs.State.{entriesText}
 use Rattle.text.specs.Puts.{Puts}
 
 abbrev Inv-loop : tie.InvT-loop
