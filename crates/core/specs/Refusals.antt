@@ -10,18 +10,18 @@ use Rattle.core.specs.Sound.{sound}
 use Rattle.core.specs.State.{addressOf, full, idle, readyAt}
 use Rattle.core.specs.declared.Core.{Core}
 use Rattle.core.specs.declared.Stepped.{Stepped}
-use Rattle.event.specs.Kinds.{byteOf, isExtra, isStart, kindOf, ofMaster, ofRunning, subject, wantsReady}
+use Rattle.event.specs.Kinds.{byteOf, isExtra, isFault, isStart, isWrite, ofMaster, ofRunning, subject, wantsReady}
 use Rattle.event.specs.declared.Event.{Event}
 use Rattle.guest.specs.Write.{isField}
 use Rattle.table.specs.Position.{isStarted}
 
 -- a Write to no field
 abbrev pub strayWrite : Event → Bool
-strayWrite e = both (eqb (kindOf e) 23) (not (isField (byteOf e)))
+strayWrite e = both (isWrite e) (not (isField (byteOf e)))
 
 -- a Fault whose code is not 3, 4 or 5
 abbrev pub strayFault : Event → Bool
-strayFault e = both (eqb (kindOf e) 24) (not (within 3 5 (byteOf e)))
+strayFault e = both (isFault e) (not (within 3 5 (byteOf e)))
 
 -- R1, the rows from 7 on, from top to bottom; 0 where none applies
 unfoldable pub rowOf : Core → Event → ℕ

@@ -1,1 +1,1 @@
-// What the programs print is the run by public events: theorems over the crates `replay` and `soundness`. It has no function.
+// Laws of a run as text: filling to the end gives the whole text, and it is the run by public events. It has no function.

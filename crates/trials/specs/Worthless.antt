@@ -15,7 +15,7 @@ use Rattle.core.specs.Refusals.{refused, rowOf}
 use Rattle.core.specs.State.{idle, ownerNow, vmAt, withClock, withQueue, withRunning, withVm, withVms}
 use Rattle.core.specs.declared.Core.{Core}
 use Rattle.core.specs.declared.Stepped.{Stepped}
-use Rattle.event.specs.Kinds.{byteOf, isExtra, isTick, kindOf}
+use Rattle.event.specs.Kinds.{anyRestart, byteOf, isExtra, isShutdown, isStop, isTick}
 use Rattle.event.specs.declared.Event.the-variants.{Call, Extra, Fault, Restart, Shutdown, Start, Stop, Tick, Write}
 use Rattle.event.specs.declared.Event.{Event}
 use Rattle.guest.specs.Bits.{bit}
@@ -99,7 +99,7 @@ chargesSpare =
 
 -- leaves the entries of a VM that is stopped (M4); it does not test its own soundness, so that it goes on
 abbrev pub leavesEntries : Behaviour
-leavesEntries c e = pick (eqb (kindOf e) 18) (withCore (innerOf c e) (withQueue (innerOf c e .core) (c .queue))) (innerOf c e)
+leavesEntries c e = pick (isStop e) (withCore (innerOf c e) (withQueue (innerOf c e .core) (c .queue))) (innerOf c e)
 
 -- serves the newest entry first: a request of the master's goes to the front
 abbrev pub newestFirst : Behaviour
@@ -120,7 +120,7 @@ raisesCopy = tickThen (λ c s. withCore s (withVm (s .core) (s .core .running) (
 
 -- M2: moves the table when a VM is stopped
 abbrev pub movesAtStop : Behaviour
-movesAtStop c e = pick (both (eqb (kindOf e) 18) (isDone (stepOf c e))) (withCore (stepOf c e) (withClock (stepOf c e .core) (tickClock c))) (stepOf c e)
+movesAtStop c e = pick (both (isStop e) (isDone (stepOf c e))) (withCore (stepOf c e) (withClock (stepOf c e .core) (tickClock c))) (stepOf c e)
 
 -- ours, with another delivery d in a tick and in services 0 and 1, and another delivery i where n was injected
 abbrev pub enteringBy : (ℕ → Vm → Delivery) → ℕ → ℕ → List ℕ → List Vm → Delivery
@@ -191,7 +191,7 @@ injectsItsOwn = deliveringBy deliver (λ n handler v. deliverBy handler v (pick 
 -- M5: delivers 11 when the master asks for the shutdown
 abbrev pub shutsAtOnce : Behaviour
 shutsAtOnce c e =
-    pick (both (eqb (kindOf e) 19) (isDone (stepOf c e)))
+    pick (both (isShutdown e) (isDone (stepOf c e)))
     (changedBy c (deliveringFrom (c .running) (c .queue) (byteOf e) (deliver (handlerAt (c .config) (byteOf e)) (pend 11 (vmAt c (byteOf e))))))
     (stepOf c e)
 
@@ -213,7 +213,7 @@ tellsNone c e = withRemoved (stepOf c e) 0
 
 -- M6: tells nothing at a Restart
 abbrev pub restartsSilent : Behaviour
-restartsSilent c e = pick (eqb (kindOf e) 20) (withRemoved (stepOf c e) 0) (stepOf c e)
+restartsSilent c e = pick (anyRestart e) (withRemoved (stepOf c e) 0) (stepOf c e)
 
 -- A8: tells the entry that a spare tick serves as removed
 abbrev pub tellsServed : Behaviour
