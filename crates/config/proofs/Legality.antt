@@ -11,6 +11,7 @@ use native.Mathlib.Omega.{arith}
 use Rattle.basis.proofs.Laws.{both-left, both-of, both-right, either-is, either-left, either-right, every-is, every-more, every-of, or-none, pick-case, some-is, some-of}
 use Rattle.basis.specs.Choice.{both, either, pick}
 use Rattle.basis.specs.Count.{every}
+use Rattle.basis.specs.Nobody.{nobody}
 use Rattle.config.specs.Places.{placesFit}
 use Rattle.config.specs.Sizes.{Legal, durationAt, durationsFit, emptyPast, entryAt, handlerAt, hasSlot, lasts, legal, names, ownerAt, ownersFit, roomFits, slotsFit, slotsRest, vmsFit, vmsRest, vmsServed, within}
 use Rattle.config.specs.declared.Config.{Config}
@@ -64,23 +65,23 @@ within-is a b n e = (leb-true a n (both-left (leb a n) (leb n b) e), leb-true n 
 pub within-of : (a b n : ℕ) → a ≤ n → n ≤ b → within a b n ≡ true
 within-of a b n h l = both-of (leb a n) (leb n b) (le-leb a n h) (le-leb n b l)
 
-lasts-spare : (o t : ℕ) → lasts o t ≡ true → o ≡ 255 → t ≡ 1
-lasts-spare o t e s = eqb-true t 1 (rw (eq-eqb o 255 s) at e)
+lasts-spare : (o t : ℕ) → lasts o t ≡ true → o ≡ nobody → t ≡ 1
+lasts-spare o t e s = eqb-true t 1 (rw (eq-eqb o nobody s) at e)
 
-lasts-named : (o t : ℕ) → lasts o t ≡ true → (o ≡ 255 → ⊥) → (1 ≤ t) × (t ≤ 1000)
-lasts-named o t e s = within-is 1 1000 t (rw (ne-eqb o 255 s) at e)
+lasts-named : (o t : ℕ) → lasts o t ≡ true → (o ≡ nobody → ⊥) → (1 ≤ t) × (t ≤ 1000)
+lasts-named o t e s = within-is 1 1000 t (rw (ne-eqb o nobody s) at e)
 
-lasts-of : (o t : ℕ) → (o ≡ 255 → t ≡ 1) → ((o ≡ 255 → ⊥) → (1 ≤ t) × (t ≤ 1000)) → lasts o t ≡ true
+lasts-of : (o t : ℕ) → (o ≡ nobody → t ≡ 1) → ((o ≡ nobody → ⊥) → (1 ≤ t) × (t ≤ 1000)) → lasts o t ≡ true
 lasts-of o t s n =
-    pick-case (λ (b : Bool). b ≡ true) (eqb o 255) (eqb t 1) (within 1 1000 t)
-    (λ e. eq-eqb t 1 (s (eqb-true o 255 e)))
-    (λ e. (let h = n (eqb-false o 255 e) in within-of 1 1000 t (h .0) (h .1)))
+    pick-case (λ (b : Bool). b ≡ true) (eqb o nobody) (eqb t 1) (within 1 1000 t)
+    (λ e. eq-eqb t 1 (s (eqb-true o nobody e)))
+    (λ e. (let h = n (eqb-false o nobody e) in within-of 1 1000 t (h .0) (h .1)))
 
-names-is : (n o : ℕ) → names n o ≡ true → (o ≡ 255) ⊎ (o < n)
-names-is n o e = ⊎-elim (λ h. inl (eqb-true o 255 h)) (λ h. inr (ltb-true o n h)) (either-is (eqb o 255) (ltb o n) e)
+names-is : (n o : ℕ) → names n o ≡ true → (o ≡ nobody) ⊎ (o < n)
+names-is n o e = ⊎-elim (λ h. inl (eqb-true o nobody h)) (λ h. inr (ltb-true o n h)) (either-is (eqb o nobody) (ltb o n) e)
 
-names-of : (n o : ℕ) → (o ≡ 255) ⊎ (o < n) → names n o ≡ true
-names-of n o = ⊎-elim (λ h. either-left (eqb o 255) (ltb o n) (eq-eqb o 255 h)) (λ h. either-right (eqb o 255) (ltb o n) (lt-ltb o n h))
+names-of : (n o : ℕ) → (o ≡ nobody) ⊎ (o < n) → names n o ≡ true
+names-of n o = ⊎-elim (λ h. either-left (eqb o nobody) (ltb o n) (eq-eqb o nobody h)) (λ h. either-right (eqb o nobody) (ltb o n) (lt-ltb o n h))
 
 empty-is : (n k x y : ℕ) → emptyPast n k x y ≡ true → n ≤ k → (x ≡ 0) × (y ≡ 0)
 empty-is n k x y e h =

@@ -62,7 +62,7 @@ turn-address running at count owner head left handlers l = refl
 tick-parts : (c : Core) (at owner head : ℕ) (k : Clock) (t : Turn) (q : Queue) (n : Notice)
     → k ≡ nextClock (c .config .slots) (c .config .durations) (c .clock) → owner ≡ getD (c .config .owners) (k .slot) 0
     → head ≡ frontOf (entries (c .queue)) → t ≡ turn (c .running) at (c .config .count) owner head (k .left) (c .config .handlers) (c .vms)
-    → q ≡ pick (eqb owner 255) (ofList (rest (entries (c .queue)))) (c .queue) → n ≡ noNotice
+    → q ≡ pick (eqb owner nobody) (ofList (rest (entries (c .queue)))) (c .queue) → n ≡ noNotice
     → record { core = record { config = c .config; clock = k; running = t .who; queue = q; vms = t .vms }; answer = record { refusal = 0; running = t .who; address = t .address; delivered = t .number; notice = n; result = 0; removed = 0 } } ≡ done c (Tick at)
 unfolding done tickTurn tickQueue tickClock
 tick-parts c at owner head k t q n hk ho hh ht hq hn =
@@ -71,7 +71,7 @@ tick-parts c at owner head k t q n hk ho hh ht hq hn =
 -- a tick as the code makes it: the queue says who is served, and what is left
 pub tick-law : (c : Core) (at owner : ℕ) (k : Clock) (s : Served) (t : Turn) (n : Notice)
     → k ≡ nextClock (c .config .slots) (c .config .durations) (c .clock) → owner ≡ getD (c .config .owners) (k .slot) 0
-    → s ≡ served (eqb owner 255) (c .queue) → t ≡ turn (c .running) at (c .config .count) owner (s .vm) (k .left) (c .config .handlers) (c .vms) → n ≡ noNotice
+    → s ≡ served (eqb owner nobody) (c .queue) → t ≡ turn (c .running) at (c .config .count) owner (s .vm) (k .left) (c .config .handlers) (c .vms) → n ≡ noNotice
     → record { core = record { config = c .config; clock = k; running = t .who; queue = s .queue; vms = t .vms }; answer = record { refusal = 0; running = t .who; address = t .address; delivered = t .number; notice = n; result = 0; removed = 0 } } ≡ done c (Tick at)
 tick-law c at owner k s t n hk ho hs ht hn =
     let turned : t ≡ turn (c .running) at (c .config .count) owner (frontOf (entries (c .queue))) (k .left) (c .config .handlers) (c .vms) =

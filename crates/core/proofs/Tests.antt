@@ -8,6 +8,7 @@ use mathlib.Core.Path.{ap, sym, _∙_, _≡_}
 use Rattle.basis.proofs.Laws.{both-assoc, every-same}
 use Rattle.basis.specs.Choice.{both, either}
 use Rattle.basis.specs.Count.{every}
+use Rattle.basis.specs.Nobody.{nobody}
 use Rattle.config.proofs.Legality.{legal-is}
 use Rattle.config.specs.Sizes.{isSpare, legal, within}
 use Rattle.config.specs.declared.Config.{Config}
@@ -36,12 +37,12 @@ pub sound-law : (c : Core) (s : List ℕ) (t rest queued begun placed ready runs
     → t ≡ legal (c .config) → t ≡ true → s ≡ standingsOf (c .vms)
     → rest ≡ restFresh (c .config .count) (c .vms)
     → queued ≡ both (leb (c .queue .len) (c .config .room)) (both (every (λ k. readyIn s (getD (c .queue .items) k 0)) (c .queue .len)) (paddedOf (c .queue)))
-    → begun ≡ both (either (hasTicked (c .clock)) (eqb (c .running) 255)) (either (isStarted (c .clock)) (both (noneIn s) (both (eqb (c .queue .len) 0) (both (eqb (c .running) 255) (not (hasTicked (c .clock)))))))
+    → begun ≡ both (either (hasTicked (c .clock)) (eqb (c .running) nobody)) (either (isStarted (c .clock)) (both (noneIn s) (both (eqb (c .queue .len) 0) (both (eqb (c .running) nobody) (not (hasTicked (c .clock)))))))
     → duration ≡ getD (c .config .durations) (c .clock .slot) 0
     → placed ≡ both (either (not (hasTicked (c .clock))) (ltb (c .clock .slot) (c .config .slots))) (either (not (hasTicked (c .clock))) (within 1 duration (c .clock .left)))
     → owner ≡ getD (c .config .owners) (c .clock .slot) 0
     → ready ≡ readyIn s (c .running)
-    → runs ≡ both (either (eqb (c .running) 255) ready) (either (eqb (c .running) 255) (either (eqb owner (c .running)) (isSpare owner)))
+    → runs ≡ both (either (eqb (c .running) nobody) ready) (either (eqb (c .running) nobody) (either (eqb owner (c .running)) (isSpare owner)))
     → known ≡ both (leb (c .clock .started) 1) (both (leb (c .clock .ticked) 1) (every (λ j. leb (getD s j 0) 4) 8))
     → r ≡ both rest (both queued (both begun (both placed (both runs known))))
     → r ≡ sound c

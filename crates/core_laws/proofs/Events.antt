@@ -117,7 +117,7 @@ replaced-sound c n s on v l vm m r run q w =
       slot = s .slot;
       left = s .left;
       ready = λ h. run h .1;
-      named = λ h. subst (λ (x : ℕ). (ownerNow c ≡ x) ⊎ (ownerNow c ≡ 255)) (sym (run h .0)) (s .named (λ e. h (run h .0 ∙ e)));
+      named = λ h. subst (λ (x : ℕ). (ownerNow c ≡ x) ⊎ (ownerNow c ≡ nobody)) (sym (run h .0)) (s .named (λ e. h (run h .0 ∙ e)));
       flags = s .flags;
       standings = known;
     }
@@ -197,22 +197,22 @@ start-sound c n s off =
 
 -- ---- Tick
 
-front-of : (p : ℕ → Type 0) (l : List ℕ) → All p l → (frontOf l ≡ 255 → ⊥) → p (frontOf l)
+front-of : (p : ℕ → Type 0) (l : List ℕ) → All p l → (frontOf l ≡ nobody → ⊥) → p (frontOf l)
 unfolding frontOf
 front-of p [] a h = absurd (h refl)
 front-of p (x ∷ l) a h = a .0
 
 -- D6, D7: whom a tick runs is ready, and the slot names it or is spare
 pub runner-facts : (c : Core) → Shaped c → Sound c → (owner : ℕ) → (runnerOf owner (frontOf (entries (c .queue))) (c .vms) ≡ nobody → ⊥)
-    → (readyAt c (runnerOf owner (frontOf (entries (c .queue))) (c .vms)) ≡ true) × ((owner ≡ runnerOf owner (frontOf (entries (c .queue))) (c .vms)) ⊎ (owner ≡ 255))
+    → (readyAt c (runnerOf owner (frontOf (entries (c .queue))) (c .vms)) ≡ true) × ((owner ≡ runnerOf owner (frontOf (entries (c .queue))) (c .vms)) ⊎ (owner ≡ nobody))
 unfolding runnerOf
 runner-facts c p s owner =
     pick-case Q (isSpare owner) _ _
-    (λ h n. (front-of (λ x. readyAt c x ≡ true) (entries (c .queue)) (entries-ready c p s) n, inr (eqb-true owner 255 h)))
+    (λ h n. (front-of (λ x. readyAt c x ≡ true) (entries (c .queue)) (entries-ready c p s) n, inr (eqb-true owner nobody h)))
     (λ h. pick-case Q (isReady (getD (c .vms) owner fresh)) _ _ (λ r n. (r, inl refl)) (λ r n. absurd (n refl)))
   where
     Q : ℕ → Type 0
-    Q who = (who ≡ nobody → ⊥) → (readyAt c who ≡ true) × ((owner ≡ who) ⊎ (owner ≡ 255))
+    Q who = (who ≡ nobody → ⊥) → (readyAt c who ≡ true) × ((owner ≡ who) ⊎ (owner ≡ nobody))
 
 on-table-now : (c : Core) → Sound c → hasTicked (c .clock) ≡ true → OnTable (c .config) (c .clock)
 on-table-now c s h = let w = s .left h in record { slot = s .slot h; some = w .0; most = w .1 }
@@ -257,7 +257,7 @@ module _ (c : Core) (p : Shaped c) (s : Sound c) (on : isStarted (c .clock) ≡ 
   -- a number from the VM count up to 7 is neither nobody nor a VM of the configuration
   no-vm : (k r : ℕ) → c .config .count ≤ k → k < 8 → ((r ≡ nobody → ⊥) → r < c .config .count) → k ≡ r → ⊥
   no-vm k r h i f e =
-      let n : r ≡ 255 → ⊥ = λ z. omega arith in
+      let n : r ≡ nobody → ⊥ = λ z. omega arith in
       let l = f n in
       omega arith
 

@@ -48,11 +48,11 @@ not-of : (a : Bool) → a ≡ false → not a ≡ true
 not-of a e = rw e
 
 -- W11, of the VM that runs
-named-is : (o r : ℕ) → either (eqb o r) (isSpare o) ≡ true → (o ≡ r) ⊎ (o ≡ 255)
-named-is o r e = ⊎-elim (λ h. inl (eqb-true o r h)) (λ h. inr (eqb-true o 255 h)) (either-is (eqb o r) (eqb o 255) e)
+named-is : (o r : ℕ) → either (eqb o r) (isSpare o) ≡ true → (o ≡ r) ⊎ (o ≡ nobody)
+named-is o r e = ⊎-elim (λ h. inl (eqb-true o r h)) (λ h. inr (eqb-true o nobody h)) (either-is (eqb o r) (eqb o nobody) e)
 
-named-of : (o r : ℕ) → (o ≡ r) ⊎ (o ≡ 255) → either (eqb o r) (isSpare o) ≡ true
-named-of o r = ⊎-elim (λ h. either-left (eqb o r) (eqb o 255) (eq-eqb o r h)) (λ h. either-right (eqb o r) (eqb o 255) (eq-eqb o 255 h))
+named-of : (o r : ℕ) → (o ≡ r) ⊎ (o ≡ nobody) → either (eqb o r) (isSpare o) ≡ true
+named-of o r = ⊎-elim (λ h. either-left (eqb o r) (eqb o nobody) (eq-eqb o r h)) (λ h. either-right (eqb o r) (eqb o nobody) (eq-eqb o nobody h))
 
 -- ---- W1 to W12 as the tests that `sound` joins
 
@@ -266,7 +266,7 @@ module _ (c : Core) (n : length (c .vms) ≡ 8) (s : Sound c) where
 
   -- nobody is no VM
   pub nobody-unready : readyAt c nobody ≡ false
-  nobody-unready = (let m = count-most c s in let g : length (c .vms) ≤ 255 = omega arith in rw (List·getD-eq-default (c .vms) fresh g))
+  nobody-unready = (let m = count-most c s in let g : length (c .vms) ≤ nobody = omega arith in rw (List·getD-eq-default (c .vms) fresh g))
 
 module _ (c : Core) (p : Shaped c) (s : Sound c) where
   pub queue-is-entries : c .queue ≡ ofList (entries (c .queue))

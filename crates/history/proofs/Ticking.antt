@@ -8,6 +8,7 @@ use mathlib.Core.Path.{ap, refl, subst, sym, _∙_, _≡_}
 use native.Mathlib.Omega.{arith}
 use Rattle.basis.proofs.Laws.{both-left, both-right, false-true}
 use Rattle.basis.specs.Choice.{pick}
+use Rattle.basis.specs.Nobody.{nobody}
 use Rattle.config.specs.Sizes.{isSpare}
 use Rattle.config.specs.declared.Config.{Config}
 use Rattle.core.specs.State.{readyAt}
@@ -28,11 +29,11 @@ runner-spare : (c : Core) (o : ℕ) → isSpare o ≡ true → runnerBy c o ≡ 
 unfolding runnerOf
 runner-spare c o e = rw e
 
-runner-named : (c : Core) (o : ℕ) → isSpare o ≡ false → runnerBy c o ≡ pick (readyAt c o) o 255
+runner-named : (c : Core) (o : ℕ) → isSpare o ≡ false → runnerBy c o ≡ pick (readyAt c o) o nobody
 unfolding runnerOf
 runner-named c o e = rw e
 
-module _ (g : Config) (v : ℕ) (small : v < 255) (m : Moment) (l : Lawful g m) where
+module _ (g : Config) (v : ℕ) (small : v < nobody) (m : Moment) (l : Lawful g m) where
   pub tick-of : (w : ℕ) → naming g w m ≡ true → (ticking m ≡ true) × (tableAt g (m .ticks) ≡ w)
   unfolding naming
   tick-of w h = (both-left (ticking m) _ h, eqb-true (tableAt g (m .ticks)) w (both-right (ticking m) _ h))
@@ -48,7 +49,7 @@ module _ (g : Config) (v : ℕ) (small : v < 255) (m : Moment) (l : Lawful g m) 
       go (Remove w) k q = false-true (sym (k .0) ∙ h)
 
   pub spare-front : spare g m ≡ true → m .answer .running ≡ frontOf (entries (m .before .queue))
-  spare-front h = let t = tick-of 255 h in l .ran (t .0) ∙ runner-spare (m .before) (tableAt g (m .ticks)) (eq-eqb (tableAt g (m .ticks)) 255 (t .1))
+  spare-front h = let t = tick-of nobody h in l .ran (t .0) ∙ runner-spare (m .before) (tableAt g (m .ticks)) (eq-eqb (tableAt g (m .ticks)) nobody (t .1))
 
   pub handed-front : spare g m ≡ true → runs v m ≡ true → frontOf (entries (m .before .queue)) ≡ v
   handed-front h r = sym (spare-front h) ∙ eqb-true (m .answer .running) v r
@@ -56,14 +57,14 @@ module _ (g : Config) (v : ℕ) (small : v < 255) (m : Moment) (l : Lawful g m) 
   pub named-runs : naming g v m ≡ true → readyAt (m .before) v ≡ true → runs v m ≡ true
   named-runs h r =
       let t = tick-of v h in
-      let o : isSpare (tableAt g (m .ticks)) ≡ false = ne-eqb (tableAt g (m .ticks)) 255 (λ e. omega (arith, t .1)) in
+      let o : isSpare (tableAt g (m .ticks)) ≡ false = ne-eqb (tableAt g (m .ticks)) nobody (λ e. omega (arith, t .1)) in
       eq-eqb (m .answer .running) v (l .ran (t .0) ∙ runner-named (m .before) (tableAt g (m .ticks)) o ∙ rw (t .1, r))
 
   pub else-spare : ticking m ≡ true → runs v m ≡ true → naming g v m ≡ false → spare g m ≡ true
   unfolding naming
   else-spare t r n = rw t (go (isSpare (tableAt g (m .ticks))) refl)
     where
-      not-named : (b : Bool) → readyAt (m .before) (tableAt g (m .ticks)) ≡ b → pick b (tableAt g (m .ticks)) 255 ≡ v → ⊥
+      not-named : (b : Bool) → readyAt (m .before) (tableAt g (m .ticks)) ≡ b → pick b (tableAt g (m .ticks)) nobody ≡ v → ⊥
       not-named true q e = false-true (sym n ∙ rw (t, eq-eqb (tableAt g (m .ticks)) v e))
       not-named false q e = omega arith
 

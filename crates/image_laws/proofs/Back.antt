@@ -12,6 +12,7 @@ use native.Mathlib.Omega.{arith}
 use Rattle.basis.proofs.Digits.{bytes-drop, half-below, word-below}
 use Rattle.basis.proofs.Laws.{either-is, every-is, some-is}
 use Rattle.basis.specs.Choice.{pick, unless}
+use Rattle.basis.specs.Nobody.{nobody}
 use Rattle.basis.specs.Numbers.{Bytes, half, word}
 use Rattle.config.proofs.Legality.{legal-of, within-is}
 use Rattle.config.specs.Ranges.{Typed}
@@ -35,21 +36,21 @@ unless-is : (b : Bool) (n m : ℕ) → (n ≡ 0 → ⊥) → unless b n m ≡ 0 
 unless-is true n m h e = (refl, e)
 unless-is false n m h e = absurd (h e)
 
-owner-names : (count o t : ℕ) → ownerFault count o t ≡ 0 → (o ≡ 255) ⊎ (o < count)
+owner-names : (count o t : ℕ) → ownerFault count o t ≡ 0 → (o ≡ nobody) ⊎ (o < count)
 unfolding ownerFault
 owner-names count o t e =
     let w = unless-is (names count o) 23 _ (λ z. omega arith) e in
-    ⊎-elim (λ h. inl (eqb-true o 255 h)) (λ h. inr (ltb-true o count h)) (either-is (eqb o 255) (ltb o count) (w .0))
+    ⊎-elim (λ h. inl (eqb-true o nobody h)) (λ h. inr (ltb-true o count h)) (either-is (eqb o nobody) (ltb o count) (w .0))
 
-owner-spare : (count o t : ℕ) → ownerFault count o t ≡ 0 → o ≡ 255 → t ≡ 1
+owner-spare : (count o t : ℕ) → ownerFault count o t ≡ 0 → o ≡ nobody → t ≡ 1
 unfolding ownerFault
-owner-spare count o t e h = eqb-true t 1 (unless-is (eqb t 1) 24 0 (λ z. omega arith) (rw (eq-eqb o 255 h) at e) .0)
+owner-spare count o t e h = eqb-true t 1 (unless-is (eqb t 1) 24 0 (λ z. omega arith) (rw (eq-eqb o nobody h) at e) .0)
 
-owner-named : (count o t : ℕ) → ownerFault count o t ≡ 0 → (o ≡ 255 → ⊥) → (1 ≤ t) × (t ≤ 1000)
+owner-named : (count o t : ℕ) → ownerFault count o t ≡ 0 → (o ≡ nobody → ⊥) → (1 ≤ t) × (t ≤ 1000)
 unfolding ownerFault
 owner-named count o t e h =
     let w = unless-is (names count o) 23 _ (λ z. omega arith) e in
-    within-is 1 1000 t (unless-is (within 1 1000 t) 25 0 (λ z. omega arith) (rw (ne-eqb o 255 h) at (w .1)) .0)
+    within-is 1 1000 t (unless-is (within 1 1000 t) 25 0 (λ z. omega arith) (rw (ne-eqb o nobody h) at (w .1)) .0)
 
 -- d has zeros in the places of the slots that it does not have
 record Clear (d : Config) : Type 0 where

@@ -10,6 +10,7 @@ use native.Mathlib.Decide.{ℕ-discrete}
 use native.Mathlib.Omega.{arith}
 use Rattle.basis.proofs.Digits.{half-whole, word-whole}
 use Rattle.basis.proofs.Laws.{every-of, some-of}
+use Rattle.basis.specs.Nobody.{nobody}
 use Rattle.basis.specs.Numbers.{half, word}
 use Rattle.config.proofs.Legality.{legal-is}
 use Rattle.config.specs.Ranges.{Typed}
@@ -48,15 +49,15 @@ pub same-config : (a b : Config) → a .count ≡ b .count → a .room ≡ b .ro
 same-config a b = same-fields (a .count) (a .room) (a .slots) (b .count) (b .room) (b .slots) (a .entries) (a .handlers) (a .owners) (a .durations) (b .entries) (b .handlers) (b .owners) (b .durations)
 
 -- a written record has no fault
-owner-one : (count o t : ℕ) → (o ≡ 255) ⊎ (o < count) → (o ≡ 255 → t ≡ 1) → ((o ≡ 255 → ⊥) → (1 ≤ t) × (t ≤ 1000)) → ownerFault count o t ≡ 0
+owner-one : (count o t : ℕ) → (o ≡ nobody) ⊎ (o < count) → (o ≡ nobody → t ≡ 1) → ((o ≡ nobody → ⊥) → (1 ≤ t) × (t ≤ 1000)) → ownerFault count o t ≡ 0
 unfolding ownerFault
 owner-one count o t w s n =
-    elim (ℕ-discrete o 255) [
-      | yes e ↦ rw (eq-eqb o 255 e, eq-eqb t 1 (s e))
+    elim (ℕ-discrete o nobody) [
+      | yes e ↦ rw (eq-eqb o nobody e, eq-eqb t 1 (s e))
       | no e ↦
           ⊎-elim
           (λ x. absurd (e x))
-          (λ x. (let h = n e in rw (ne-eqb o 255 e, lt-ltb o count x, le-leb 1 t (h .0), le-leb t 1000 (h .1))))
+          (λ x. (let h = n e in rw (ne-eqb o nobody e, lt-ltb o count x, le-leb 1 t (h .0), le-leb t 1000 (h .1))))
           w
     ]
 

@@ -7,6 +7,7 @@ use native.Mathlib.Numerals.{add-one}
 use native.Mathlib.Omega.{arith}
 use Rattle.basis.specs.Buffer.{putAll}
 use Rattle.basis.specs.Count.{joined}
+use Rattle.basis.specs.Nobody.{nobody}
 use Rattle.lines.specs.Text.{whereText}
 use Rattle.lines.specs.Words.{address, choice, dash, number}
 use Rattle.text.proofs.Puts.{puts-then}
@@ -14,21 +15,21 @@ use Rattle.text.specs.Puts.{Puts}
 
 module _ {l m : List ℕ} {i j : ℕ} where
   -- one or the other
-  pub choice-none : (v after : ℕ) → v ≡ 255 → Puts (dash after) l i m j → Puts (choice v after) l i m j
+  pub choice-none : (v after : ℕ) → v ≡ nobody → Puts (dash after) l i m j → Puts (choice v after) l i m j
   unfolding choice
-  choice-none v after e p = rw (eq-eqb v 255 e) p
+  choice-none v after e p = rw (eq-eqb v nobody e) p
 
-  pub choice-some : (v after : ℕ) → (v ≡ 255 → ⊥) → Puts (number v after) l i m j → Puts (choice v after) l i m j
+  pub choice-some : (v after : ℕ) → (v ≡ nobody → ⊥) → Puts (number v after) l i m j → Puts (choice v after) l i m j
   unfolding choice
-  choice-some v after e p = rw (ne-eqb v 255 e) p
+  choice-some v after e p = rw (ne-eqb v nobody e) p
 
-  pub where-none : (v at : ℕ) → v ≡ 255 → Puts (dash 32) l i m j → Puts (whereText v at) l i m j
+  pub where-none : (v at : ℕ) → v ≡ nobody → Puts (dash 32) l i m j → Puts (whereText v at) l i m j
   unfolding whereText
-  where-none v at e p = rw (eq-eqb v 255 e) p
+  where-none v at e p = rw (eq-eqb v nobody e) p
 
-  pub where-some : (v at : ℕ) → (v ≡ 255 → ⊥) → Puts (address at 32) l i m j → Puts (whereText v at) l i m j
+  pub where-some : (v at : ℕ) → (v ≡ nobody → ⊥) → Puts (address at 32) l i m j → Puts (whereText v at) l i m j
   unfolding whereText
-  where-some v at e p = rw (ne-eqb v 255 e) p
+  where-some v at e p = rw (ne-eqb v nobody e) p
 
 -- nothing is put
 pub puts-none : (l : List ℕ) (i : ℕ) → Puts [] l i l i

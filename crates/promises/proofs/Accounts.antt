@@ -8,6 +8,7 @@ use mathlib.Core.Path.{refl, subst, sym, _∙_, _≡_}
 use native.Mathlib.Omega.{arith}
 use Rattle.basis.proofs.Laws.{false-true}
 use Rattle.basis.specs.Choice.{pick}
+use Rattle.basis.specs.Nobody.{nobody}
 use Rattle.config.specs.declared.Config.{Config}
 use Rattle.core.specs.Events.{stepOf}
 use Rattle.core.specs.State.{freshCore}
@@ -49,7 +50,7 @@ asks-is g v m l = go (asks v m) refl
 
 -- ---- one moment
 
-module _ (g : Config) (v : ℕ) (small : v < 255) (m : Moment) (l : Lawful g m) where
+module _ (g : Config) (v : ℕ) (small : v < nobody) (m : Moment) (l : Lawful g m) where
   -- the entries of v before, and its request, are what was handed to it, what was removed and what stands after
   balance-law : entriesOf v (entries (m .before .queue)) + num (asks v m)
       ≡ num (handed g v m) + (pick (removes g v m) (m .answer .removed) 0 + entriesOf v (entries (m .after .queue)))
@@ -87,7 +88,7 @@ removed-nil g v = refl
 
 module _ (g : Config) (b : Behaviour) (Inv : ℕ → Core → Type 0)
     (keeps : (k : ℕ) (c : Core) → Inv k c → (e : Event) → Inv (ticksAfter (moment b k c e)) (b c e .core))
-    (law : (k : ℕ) (c : Core) → Inv k c → (e : Event) → Lawful g (moment b k c e)) (v : ℕ) (small : v < 255) where
+    (law : (k : ℕ) (c : Core) → Inv k c → (e : Event) → Lawful g (moment b k c e)) (v : ℕ) (small : v < nobody) where
   pub balance : (es : List Event) (k : ℕ) (c : Core) → Inv k c
       → entriesOf v (entries (c .queue)) + times (asks v) (moments b k c es)
       ≡ times (handed g v) (moments b k c es) + (removedIn g v (moments b k c es) + entriesOf v (entries (stateAfter b c es .queue)))
@@ -108,5 +109,5 @@ none-fresh g v = refl
 
 pub ours-accounts : Accounts stepOf
 ours-accounts g d v h es =
-    let small : v < 255 = omega (arith, vm-small g d v h) in
+    let small : v < nobody = omega (arith, vm-small g d v h) in
     record { accepted = omega (arith, none-fresh g v, balance g stepOf (Reached g) (step-at g d) (lawful g d) v small es 0 (freshCore g) (at-fresh g d)) }

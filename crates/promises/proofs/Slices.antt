@@ -6,6 +6,7 @@ use mathlib.Core.Path.{refl, sym, _∙_, _≡_}
 use native.Mathlib.Omega.{arith}
 use Rattle.basis.proofs.Laws.{false-true}
 use Rattle.basis.specs.Choice.{both}
+use Rattle.basis.specs.Nobody.{nobody}
 use Rattle.config.specs.declared.Config.{Config}
 use Rattle.core.specs.Events.{stepOf}
 use Rattle.core.specs.State.{readyAt}
@@ -23,7 +24,7 @@ use Rattle.queue.specs.Entries.{entries, entriesOf}
 
 -- ---- one moment
 
-module _ (g : Config) (v : ℕ) (small : v < 255) (m : Moment) (l : Lawful g m) where
+module _ (g : Config) (v : ℕ) (small : v < nobody) (m : Moment) (l : Lawful g m) where
   named-off : ticking m ≡ false → (w : ℕ) → naming g w m ≡ false
   unfolding naming
   named-off t w = rw t
@@ -36,7 +37,7 @@ module _ (g : Config) (v : ℕ) (small : v < 255) (m : Moment) (l : Lawful g m) 
       not-spare h = go (spare g m) refl
         where
           go : (b : Bool) → spare g m ≡ b → b ≡ false
-          go true e = absurd (omega (arith, tick-of g v small m l v h .1, tick-of g v small m l 255 e .1))
+          go true e = absurd (omega (arith, tick-of g v small m l v h .1, tick-of g v small m l nobody e .1))
           go false e = refl
 
       by-named : ticking m ≡ true → (b r : Bool) → naming g v m ≡ b → runs v m ≡ r → num r ≡ num b + num (both (spare g m) r)
@@ -51,13 +52,13 @@ module _ (g : Config) (v : ℕ) (small : v < 255) (m : Moment) (l : Lawful g m) 
 
       by-tick : (b : Bool) → ticking m ≡ b → num (ranIn v m) ≡ num (naming g v m) + num (handed g v m)
       by-tick true t = rw t (by-named t (naming g v m) (runs v m) refl refl)
-      by-tick false t = rw (t, named-off t v, named-off t 255)
+      by-tick false t = rw (t, named-off t v, named-off t nobody)
 
 -- ---- a stretch of any behaviour whose moments are lawful
 
 module _ (g : Config) (b : Behaviour) (Inv : ℕ → Core → Type 0)
     (keeps : (k : ℕ) (c : Core) → Inv k c → (e : Event) → Inv (ticksAfter (moment b k c e)) (b c e .core))
-    (law : (k : ℕ) (c : Core) → Inv k c → (e : Event) → Lawful g (moment b k c e)) (v : ℕ) (small : v < 255) where
+    (law : (k : ℕ) (c : Core) → Inv k c → (e : Event) → Lawful g (moment b k c e)) (v : ℕ) (small : v < nobody) where
   -- what was handed to v stood before or was asked for
   pub bounded : (es : List Event) (k : ℕ) (c : Core) → Inv k c
       → times (handed g v) (moments b k c es) ≤ entriesOf v (entries (c .queue)) + times (asks v) (moments b k c es)
@@ -81,7 +82,7 @@ ours-slices g d v h es fs =
     let p = ours-at g d es in
     let k = ticksOf stepOf g es in
     let c = stateOf stepOf g es in
-    let small : v < 255 = omega (arith, vm-small g d v h) in
+    let small : v < nobody = omega (arith, vm-small g d v h) in
     record {
       runs-named = each-of stepOf (Reached g) (step-at g d) _ (λ k c i e. named-runs g v small (moment stepOf k c e) (lawful g d k c i e)) fs k c p;
       else-handed = each-of stepOf (Reached g) (step-at g d) _ (λ k c i e. handed-law g v small (moment stepOf k c e) (lawful g d k c i e)) fs k c p;

@@ -9,6 +9,7 @@ use mathlib.Core.Path.{ap, refl, subst, sym, _∙_, _≡_}
 use native.Mathlib.Omega.{arith}
 use Rattle.basis.proofs.Laws.{false-true}
 use Rattle.basis.specs.Choice.{both, pick}
+use Rattle.basis.specs.Nobody.{nobody}
 use Rattle.config.specs.declared.Config.{Config}
 use Rattle.core.specs.Events.{stepOf}
 use Rattle.core.specs.declared.Core.{Core}
@@ -94,7 +95,7 @@ none-left p m ms h = (go (p m) (omega (arith, times-cons p m ms)), omega (arith,
 
 -- ---- one moment of waiting: v's request has the entries p ahead of it and z behind it
 
-module _ (g : Config) (v : ℕ) (small : v < 255) (m : Moment) (l : Lawful g m) (ms : List Moment) (stays : removes g v m ≡ false)
+module _ (g : Config) (v : ℕ) (small : v < nobody) (m : Moment) (l : Lawful g m) (ms : List Moment) (stays : removes g v m ≡ false)
     (ih : (p : List ℕ) (z : List Entry) → vmsOf (map plain p ++ (marked v ∷ z)) ≡ entries (m .after .queue) → length p < times (spare g) ms → servedIn g v (map plain p ++ (marked v ∷ z)) ms ≡ true) where
   on : (f : Effect) (q : List Entry) → vmsOf q ≡ entries (m .before .queue) → entries (m .after .queue) ≡ affected f (entries (m .before .queue)) → vmsOf (followed f q) ≡ entries (m .after .queue)
   on f q e a = vms-followed f q ∙ ap (affected f) e ∙ sym a
@@ -132,7 +133,7 @@ module _ (g : Config) (v : ℕ) (small : v < 255) (m : Moment) (l : Lawful g m) 
 
 module _ (g : Config) (b : Behaviour) (Inv : ℕ → Core → Type 0)
     (keeps : (k : ℕ) (c : Core) → Inv k c → (e : Event) → Inv (ticksAfter (moment b k c e)) (b c e .core))
-    (law : (k : ℕ) (c : Core) → Inv k c → (e : Event) → Lawful g (moment b k c e)) (v : ℕ) (small : v < 255) where
+    (law : (k : ℕ) (c : Core) → Inv k c → (e : Event) → Lawful g (moment b k c e)) (v : ℕ) (small : v < nobody) where
   pub wait : (es : List Event) (k : ℕ) (c : Core) → Inv k c → (p : List ℕ) (z : List Entry) → vmsOf (map plain p ++ (marked v ∷ z)) ≡ entries (c .queue)
       → times (removes g v) (moments b k c es) ≡ 0 → length p < times (spare g) (moments b k c es) → servedIn g v (map plain p ++ (marked v ∷ z)) (moments b k c es) ≡ true
   unfolding moments
@@ -154,7 +155,7 @@ module _ (g : Config) (b : Behaviour) (Inv : ℕ → Core → Type 0)
 
 pub ours-waiting : Waiting stepOf
 ours-waiting g d v h es e fs a =
-    let small : v < 255 = omega (arith, vm-small g d v h) in
+    let small : v < nobody = omega (arith, vm-small g d v h) in
     let i = ours-at g d es in
     let m = next stepOf g es e in
     let j = step-at g d _ _ i e in

@@ -7,17 +7,18 @@ use mathlib.Core.List.{List, [], _++_, _∷_}
 use mathlib.Core.Path.{refl, sym, _∙_, _≡_}
 use native.Mathlib.Omega.{arith}
 use Rattle.basis.specs.Choice.{pick}
+use Rattle.basis.specs.Nobody.{nobody}
 use Rattle.queue.specs.Entries.{entriesOf, frontOf, others, rest}
 
 -- a front that is a VM leaves the rest behind it
-pub front-rest : (v : ℕ) (q : List ℕ) → v < 255 → frontOf q ≡ v → q ≡ v ∷ rest q
+pub front-rest : (v : ℕ) (q : List ℕ) → v < nobody → frontOf q ≡ v → q ≡ v ∷ rest q
 unfolding frontOf rest
 front-rest v [] h e = absurd (omega arith)
 front-rest v (x ∷ q) h e = rw e
 
-pub entries-rest : (v : ℕ) (q : List ℕ) → v < 255 → entriesOf v q ≡ pick (eqb (frontOf q) v) 1 0 + entriesOf v (rest q)
+pub entries-rest : (v : ℕ) (q : List ℕ) → v < nobody → entriesOf v q ≡ pick (eqb (frontOf q) v) 1 0 + entriesOf v (rest q)
 unfolding entriesOf frontOf rest
-entries-rest v [] h = rw (ne-eqb 255 v (λ e. omega arith))
+entries-rest v [] h = rw (ne-eqb nobody v (λ e. omega arith))
 entries-rest v (x ∷ q) h = go (eqb x v)
   where
     go : (b : Bool) → pick b (suc (entriesOf v q)) (entriesOf v q) ≡ pick b 1 0 + entriesOf v q

@@ -13,6 +13,7 @@ use native.Mathlib.Numerals.{add-one}
 use native.Mathlib.Omega.{arith}
 use Rattle.basis.proofs.Laws.{either-is, either-left, either-right, every-is, every-of}
 use Rattle.basis.specs.Choice.{either, pick}
+use Rattle.basis.specs.Nobody.{nobody}
 use Rattle.queue.proofs.Lists.{length-pad, pad, pad-at, past-at, take-at-in, take-at-past}
 use Rattle.queue.specs.Entries.{All, entries, entriesOf, frontOf, ofList, others, paddedOf, pushed, rest}
 use Rattle.queue.specs.declared.Queue.{Queue}
@@ -22,12 +23,12 @@ pub front-cons : (x : ℕ) (l : List ℕ) → frontOf (x ∷ l) ≡ x
 unfolding frontOf
 front-cons x l = refl
 
-pub front-nil : frontOf [] ≡ 255
+pub front-nil : frontOf [] ≡ nobody
 unfolding frontOf
 front-nil = refl
 
 -- the front of the first n elements
-pub front-none : (l : List ℕ) (n r : ℕ) → n ≡ 0 → r ≡ 255 → r ≡ frontOf (take n l)
+pub front-none : (l : List ℕ) (n r : ℕ) → n ≡ 0 → r ≡ nobody → r ≡ frontOf (take n l)
 unfolding frontOf
 front-none l n r e f = rw e f
 

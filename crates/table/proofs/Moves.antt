@@ -8,6 +8,7 @@ use mathlib.Core.Path.{ap, refl, _≡_}
 use native.Mathlib.Decide.{ℕ-discrete}
 use native.Mathlib.Omega.{arith}
 use Rattle.basis.proofs.Laws.{pick-case}
+use Rattle.basis.specs.Nobody.{nobody}
 use Rattle.config.specs.Sizes.{Legal, durationAt, ownerAt}
 use Rattle.config.specs.declared.Config.{Config}
 use Rattle.table.specs.Position.{enterSlot, hasTicked, nextClock, slotAfter}
@@ -16,7 +17,7 @@ use Rattle.table.specs.declared.Clock.{Clock}
 -- S4: every slot of the table lasts a tick or more
 pub duration-some : (g : Config) → Legal g → (k : ℕ) → k < g .slots → 1 ≤ durationAt g k
 duration-some g l k h =
-    elim (ℕ-discrete (ownerAt g k) 255) [
+    elim (ℕ-discrete (ownerAt g k) nobody) [
       | yes e ↦ (let d = l .spares k h e in omega arith)
       | no e ↦ l .named k h e .0
     ]

@@ -13,6 +13,7 @@ use native.Mathlib.Omega.{arith}
 use Rattle.basis.proofs.Laws.{pick-case}
 use Rattle.basis.specs.Choice.{pick}
 use Rattle.basis.specs.Count.{joined}
+use Rattle.basis.specs.Nobody.{nobody}
 use Rattle.config.specs.Sizes.{Legal, durationAt, ownerAt}
 use Rattle.config.specs.declared.Config.{Config}
 use Rattle.table.proofs.Moves.{SamePlace, duration-some}
@@ -41,16 +42,16 @@ module _ (g : Config) where
       ]
 
   -- tick j of slot i
-  pub at-slot : (n i j : ℕ) → i < n → j < durationAt g i → getD (tableTo g n) (length (tableTo g i) + j) 255 ≡ ownerAt g i
+  pub at-slot : (n i j : ℕ) → i < n → j < durationAt g i → getD (tableTo g n) (length (tableTo g i) + j) nobody ≡ ownerAt g i
   unfolding tableTo joined
   at-slot zero i j h l = absurd (omega arith)
   at-slot (suc n) i j h l =
       elim (decLt i n) [
         | yes k ↦
-            List·getD-append (tableTo g n) _ 255 (length (tableTo g i) + j) (omega (arith, to-more i, to-grows n (suc i) (omega arith))) ∙ at-slot n i j k l
+            List·getD-append (tableTo g n) _ nobody (length (tableTo g i) + j) (omega (arith, to-more i, to-grows n (suc i) (omega arith))) ∙ at-slot n i j k l
         | no k ↦
             (let e : i ≡ n = omega arith in
-            rw e (getD-append-add (tableTo g n) (replicate (durationAt g n) (ownerAt g n)) j 255 ∙ getD-replicate (durationAt g n) j (ownerAt g n) 255 (rw e at l)))
+            rw e (getD-append-add (tableTo g n) (replicate (durationAt g n) (ownerAt g n)) j nobody ∙ getD-replicate (durationAt g n) j (ownerAt g n) nobody (rw e at l)))
       ]
 
 module _ (g : Config) (l : Legal g) where
@@ -62,7 +63,7 @@ module _ (g : Config) (l : Legal g) where
         slot = s;
         left = (a, b);
         place = e;
-        owner = sym (at-slot g (g .slots) (h .slot) (durationAt g (h .slot) - h .left) s (omega arith)) ∙ ap (λ (i : ℕ). getD (tableOf g) i 255) e;
+        owner = sym (at-slot g (g .slots) (h .slot) (durationAt g (h .slot) - h .left) s (omega arith)) ∙ ap (λ (i : ℕ). getD (tableOf g) i nobody) e;
       }
 
   -- the table has a tick

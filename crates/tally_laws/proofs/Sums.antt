@@ -84,7 +84,7 @@ module _ (g : Config) (few : g .count ≤ 8) (m : Moment) where
   runner = m .answer .running
 
   abbrev Fits : Type 0
-  Fits = (runner ≡ nobody) ⊎ ((runner < g .count) × ((owner ≡ runner) ⊎ (owner ≡ 255)))
+  Fits = (runner ≡ nobody) ⊎ ((runner < g .count) × ((owner ≡ runner) ⊎ (owner ≡ nobody)))
 
   adds-off : ticking m ≡ false → AddsOne g m
   unfolding tableTick spareTick missedTick idleTick naming
@@ -98,7 +98,7 @@ module _ (g : Config) (few : g .count ≤ 8) (m : Moment) where
 
     idle-served : runner ≡ nobody → (v : ℕ) → v < g .count → served g m v ≡ 0
     unfolding tableTick spareTick naming
-    idle-served e v l = rw (t, e, ne-eqb 255 v (λ f. omega arith)) (none (eqb owner v) (isSpare owner))
+    idle-served e v l = rw (t, e, ne-eqb nobody v (λ f. omega arith)) (none (eqb owner v) (isSpare owner))
       where
         none : (a b : Bool) → num (both a false) + num (both b false) ≡ 0
         none true true = refl
@@ -108,7 +108,7 @@ module _ (g : Config) (few : g .count ≤ 8) (m : Moment) where
 
     idle-named : runner ≡ nobody → (v : ℕ) → v < g .count → num (tableTick g v m) + num (missedTick g v m) ≡ num (naming g v m)
     unfolding tableTick missedTick naming
-    idle-named e v l = rw (t, e, ne-eqb 255 v (λ f. omega arith)) (here (eqb owner v))
+    idle-named e v l = rw (t, e, ne-eqb nobody v (λ f. omega arith)) (here (eqb owner v))
       where
         here : (a : Bool) → num (both a false) + num (both a true) ≡ num a
         here true = refl
@@ -123,7 +123,7 @@ module _ (g : Config) (few : g .count ≤ 8) (m : Moment) where
         let z : total (served g m) (g .count) ≡ 0 = total-same (served g m) (λ v. 0) (g .count) (idle-served e) ∙ total-none (g .count) in
         record { all = omega (arith, z, idle-one e, one); named = idle-named e }
 
-    module _ (low : runner < g .count) (o : (owner ≡ runner) ⊎ (owner ≡ 255)) where
+    module _ (low : runner < g .count) (o : (owner ≡ runner) ⊎ (owner ≡ nobody)) where
       awake : eqb runner nobody ≡ false
       awake = ne-eqb runner nobody (λ f. omega arith)
 
@@ -138,15 +138,15 @@ module _ (g : Config) (few : g .count ≤ 8) (m : Moment) where
           by-name : owner ≡ runner → num (both (eqb owner v) (eqb runner v)) + num (both (isSpare owner) (eqb runner v)) ≡ num (eqb runner v)
           by-name e = rw (e, awake) (twice (eqb runner v))
 
-          by-spare : owner ≡ 255 → num (both (eqb owner v) (eqb runner v)) + num (both (isSpare owner) (eqb runner v)) ≡ num (eqb runner v)
-          by-spare e = rw (e, ne-eqb 255 v (λ f. omega arith)) (omega arith)
+          by-spare : owner ≡ nobody → num (both (eqb owner v) (eqb runner v)) + num (both (isSpare owner) (eqb runner v)) ≡ num (eqb runner v)
+          by-spare e = rw (e, ne-eqb nobody v (λ f. omega arith)) (omega arith)
 
       runs-named : (v : ℕ) → v < g .count → num (tableTick g v m) + num (missedTick g v m) ≡ num (naming g v m)
       unfolding tableTick missedTick naming
       runs-named v l =
           rw (t, awake) (⊎-elim
           (λ e. rw e (twice (eqb runner v)))
-          (λ e. rw (e, ne-eqb 255 v (λ f. omega arith)) refl)
+          (λ e. rw (e, ne-eqb nobody v (λ f. omega arith)) refl)
           o)
         where
           twice : (a : Bool) → num (both a a) + num (both a false) ≡ num a

@@ -7,6 +7,7 @@ use mathlib.Core.Path.{ap, refl, sym, _∙_, _≡_}
 use native.Mathlib.Omega.{arith}
 use Rattle.basis.proofs.Laws.{false-true}
 use Rattle.basis.specs.Count.{every, joined, some, upTo}
+use Rattle.basis.specs.Nobody.{nobody}
 use Rattle.change.specs.Changes.{calledFrom, runningWithout}
 use Rattle.config.specs.Ranges.{Given}
 use Rattle.config.specs.Sizes.{durationsFit, hasSlot, legal, ownersFit, slotsRest, vmsRest, vmsServed}
@@ -138,7 +139,7 @@ lowest-tick-fails h = let z : _≡_ {A = ℕ} 3 7 = h (example 1) given-1 (Start
 -- D27: the demand on delivery, with 3 enabled and injected
 pub waits-fails : Delivers injectWaits → ⊥
 unfolding stepOf refusalOf rowOf sound queuedReady noneReady standingsKnown done startCore tickClock tickTurn tickQueue calledFrom runningWithout refused innerOf legal durationsFit ownersFit vmsServed hasSlot vmsRest slotsRest every some upTo joined isField stored write due deliver enter shown highest setBit clearBit pend isFresh isBlank frontOf rest others pushed paddedOf nextClock each restFresh saving runnerOf entering turnBy passed turn moments stateAfter countAfter times sinceLast tableTo naming asks begins ends entriesOf effect entriesNot servedIn firstOf linesOf
-waits-fails h = let z : _≡_ {A = ℕ} 255 3 = h (example 1) given-1 (Start ∷ Tick 0 ∷ Write 8 8 ∷ []) (Call 2 3 0x1030) .accepted refl .inject refl (omega arith) .number in omega arith
+waits-fails h = let z : _≡_ {A = ℕ} nobody 3 = h (example 1) given-1 (Start ∷ Tick 0 ∷ Write 8 8 ∷ []) (Call 2 3 0x1030) .accepted refl .inject refl (omega arith) .number in omega arith
 
 -- D27: the demand on delivery, with 7 pending and 3 injected, both enabled
 pub own-fails : Delivers injectsItsOwn → ⊥
@@ -148,7 +149,7 @@ own-fails h = let z : _≡_ {A = ℕ} 3 7 = h (example 1) given-1 (Start ∷ Tic
 -- M5: the demand on delivery
 pub at-once-fails : Delivers shutsAtOnce → ⊥
 unfolding stepOf refusalOf rowOf sound queuedReady noneReady standingsKnown done startCore tickClock tickTurn tickQueue calledFrom runningWithout refused innerOf legal durationsFit ownersFit vmsServed hasSlot vmsRest slotsRest every some upTo joined isField stored write due deliver enter shown highest setBit clearBit pend isFresh isBlank frontOf rest others pushed paddedOf nextClock each restFresh saving runnerOf entering turnBy passed turn moments stateAfter countAfter times sinceLast tableTo naming asks begins ends entriesOf effect entriesNot servedIn firstOf linesOf
-at-once-fails h = let z : _≡_ {A = ℕ} 11 255 = h (example 1) given-1 (Start ∷ Tick 0 ∷ Write 8 2048 ∷ []) (Shutdown 0) .accepted refl .never in omega arith
+at-once-fails h = let z : _≡_ {A = ℕ} 11 nobody = h (example 1) given-1 (Start ∷ Tick 0 ∷ Write 8 2048 ∷ []) (Shutdown 0) .accepted refl .never in omega arith
 
 -- M6: the balance of VM 0, of whose one entry the queue of two is told to have lost two
 pub tells-all-fails : Accounts tellsAll → ⊥
