@@ -15,7 +15,7 @@ use Rattle.config.specs.declared.Config.{Config}
 use Rattle.core.specs.Sound.{fewQueued, idleAtFirst, leftSound, noneReady, numbersKnown, placesEmpty, queuedReady, restSound, runnerNamed, runnerReady, slotSound, sound, standingsKnown, startSound}
 use Rattle.checks.specs.Standings.{noneIn, readyIn}
 use Rattle.core.specs.declared.Core.{Core}
-use Rattle.guest.specs.Record.{fresh, isReady}
+use Rattle.guest.specs.Record.{fresh, isReady, lastStanding}
 use Rattle.guest.specs.declared.Vm.{Vm}
 use Rattle.queue.specs.Entries.{paddedOf, rest}
 use Rattle.table.specs.Position.{hasTicked, isStarted}
@@ -43,7 +43,7 @@ pub sound-law : (c : Core) (s : List ℕ) (t rest queued begun placed ready runs
     → owner ≡ getD (c .config .owners) (c .clock .slot) 0
     → ready ≡ readyIn s (c .running)
     → runs ≡ both (either (eqb (c .running) nobody) ready) (either (eqb (c .running) nobody) (either (eqb owner (c .running)) (isSpare owner)))
-    → known ≡ both (leb (c .clock .started) 1) (both (leb (c .clock .ticked) 1) (every (λ j. leb (getD s j 0) 4) 8))
+    → known ≡ both (leb (c .clock .started) 1) (both (leb (c .clock .ticked) 1) (every (λ j. leb (getD s j 0) lastStanding) 8))
     → r ≡ both rest (both queued (both begun (both placed (both runs known))))
     → r ≡ sound c
 unfolding sound queuedReady noneReady standingsKnown noneIn
@@ -51,7 +51,7 @@ sound-law c s t rest queued begun placed ready runs known r duration owner ht hy
     let q : every (λ k. readyIn (standingsOf (c .vms)) (getD (c .queue .items) k 0)) (c .queue .len) ≡ queuedReady c =
     every-same _ _ (λ k. sym (ready-is (c .vms) (getD (c .queue .items) k 0))) (c .queue .len) in
     let n : every (λ k. not (readyIn (standingsOf (c .vms)) k)) 8 ≡ noneReady c = every-same _ _ (λ k. ap not (sym (ready-is (c .vms) k))) 8 in
-    let m : every (λ j. leb (getD (standingsOf (c .vms)) j 0) 4) 8 ≡ standingsKnown c = every-same _ _ (λ k. ap (λ (x : ℕ). leb x 4) (standing-is (c .vms) k)) 8 in
+    let m : every (λ j. leb (getD (standingsOf (c .vms)) j 0) lastStanding) 8 ≡ standingsKnown c = every-same _ _ (λ k. ap (λ (x : ℕ). leb x lastStanding) (standing-is (c .vms) k)) 8 in
     h ∙ rw (h1, h2, h3, h4, h5, h6, hr, hd, ho, hs, q, n, m, ← ready-is (c .vms) (c .running), sym ht ∙ hy)
     (regroup (restSound c) (fewQueued c) (queuedReady c) (placesEmpty c) (idleAtFirst c) (startSound c) (slotSound c) (leftSound c) (runnerReady c) (runnerNamed c) (numbersKnown c))
 

@@ -30,7 +30,7 @@ use Rattle.event.specs.declared.Event.the-variants.{Call, Extra, Fault, Restart
 use Rattle.event.specs.declared.Event.{Event}
 use Rattle.guest.proofs.Facts.{deliver-standing, pend-standing, write-standing}
 use Rattle.guest.specs.Deliver.{backFrom, deliver}
-use Rattle.guest.specs.Record.{endedAs, fresh, isReady, pend, savedAt, startedAt}
+use Rattle.guest.specs.Record.{endedAs, fresh, isReady, lastStanding, pend, savedAt, startedAt}
 use Rattle.guest.specs.Write.{write}
 use Rattle.guest.specs.declared.Vm.{Vm}
 use Rattle.queue.proofs.Lists.{pad-at, past-at}
@@ -102,7 +102,7 @@ module _ (c : Core) (p : Shaped c) (s : Sound c) where
 -- ---- one record replaced
 
 -- a VM of the configuration has another record; who ran goes on or nobody does; the queue is sound over the new records
-pub replaced-sound : (c : Core) → length (c .vms) ≡ 8 → Sound c → isStarted (c .clock) ≡ true → (v : ℕ) → v < c .config .count → (vm : Vm) → vm .standing ≤ 4
+pub replaced-sound : (c : Core) → length (c .vms) ≡ 8 → Sound c → isStarted (c .clock) ≡ true → (v : ℕ) → v < c .config .count → (vm : Vm) → vm .standing ≤ lastStanding
     → (r : ℕ) → ((r ≡ nobody → ⊥) → (r ≡ c .running) × (isReady (getD (set (c .vms) v vm) r fresh) ≡ true))
     → (q : Queue) → Queued (c .config .room) (set (c .vms) v vm) q → Sound (replaced c v vm r q)
 replaced-sound c n s on v l vm m r run q w =
@@ -129,7 +129,7 @@ replaced-sound c n s on v l vm m r run q w =
           | no e ↦ run e .0 ∙ s .first h
         ]
 
-    known : (k : ℕ) → k < 8 → getD (set (c .vms) v vm) k fresh .standing ≤ 4
+    known : (k : ℕ) → k < 8 → getD (set (c .vms) v vm) k fresh .standing ≤ lastStanding
     known k h =
         elim (ℕ-discrete k v) [
           | yes e ↦ (let i : v < length (c .vms) = omega (arith, count-most c s) in rw (e, getD-set-same (c .vms) v vm fresh i) m)
@@ -137,7 +137,7 @@ replaced-sound c n s on v l vm m r run q w =
         ]
 
 -- Stop, Fault, Call 3, a Call that fails: the VM is no longer ready, its entries leave, and it runs no more
-pub ended-sound : (c : Core) → Shaped c → Sound c → isStarted (c .clock) ≡ true → (v : ℕ) → v < c .config .count → (vm : Vm) → vm .standing ≤ 4
+pub ended-sound : (c : Core) → Shaped c → Sound c → isStarted (c .clock) ≡ true → (v : ℕ) → v < c .config .count → (vm : Vm) → vm .standing ≤ lastStanding
     → Sound (replaced c v vm (runningWithout (c .running) v) (queueWithout (c .queue) v))
 unfolding runningWithout
 ended-sound c p s on v l vm m =
@@ -192,8 +192,8 @@ start-sound c n s off =
     past : (k : ℕ) → c .config .count ≤ k → k < 8 → getD (startedAll (c .config .count) (c .config .entries) (c .vms)) k fresh ≡ fresh
     past k h i = at-place k i ∙ rw (le-ltb k (c .config .count) h) (s .rest k h i)
 
-    known : (k : ℕ) → k < 8 → getD (startedAll (c .config .count) (c .config .entries) (c .vms)) k fresh .standing ≤ 4
-    known k h = rw (at-place k h) (pick-case (λ (w : Vm). w .standing ≤ 4) (ltb k (c .config .count)) _ _ (λ t. omega arith) (λ t. s .standings k h))
+    known : (k : ℕ) → k < 8 → getD (startedAll (c .config .count) (c .config .entries) (c .vms)) k fresh .standing ≤ lastStanding
+    known k h = rw (at-place k h) (pick-case (λ (w : Vm). w .standing ≤ lastStanding) (ltb k (c .config .count)) _ _ (λ t. omega arith) (λ t. s .standings k h))
 
 -- ---- Tick
 
@@ -291,7 +291,7 @@ module _ (c : Core) (p : Shaped c) (s : Sound c) where
   goes-on on h vm e q w =
       renewed-over c (p .records) s on (c .running) (running-below c (p .records) s h) vm (rw e (s .ready h)) q w
 
-  ends : isStarted (c .clock) ≡ true → (c .running ≡ nobody → ⊥) → (vm : Vm) → vm .standing ≤ 4
+  ends : isStarted (c .clock) ≡ true → (c .running ≡ nobody → ⊥) → (vm : Vm) → vm .standing ≤ lastStanding
       → Sound (replaced c (c .running) vm (runningWithout (c .running) (c .running)) (queueWithout (c .queue) (c .running)))
   ends on h vm m = ended-sound c p s on (c .running) (running-below c (p .records) s h) vm m
 

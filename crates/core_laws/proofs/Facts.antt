@@ -17,7 +17,7 @@ use Rattle.core.specs.Sound.{Sound, configSound, fewQueued, idleAtFirst, leftSo
 use Rattle.core.specs.State.{Shaped, idle, ownerNow, readyAt, vmAt}
 use Rattle.core.specs.declared.Core.{Core}
 use Rattle.guest.proofs.Facts.{fresh-is, fresh-of}
-use Rattle.guest.specs.Record.{fresh}
+use Rattle.guest.specs.Record.{fresh, lastStanding}
 use Rattle.queue.proofs.Lists.{take-at-in}
 use Rattle.queue.proofs.Meaning.{all-map, all-of, entries-length, of-entries}
 use Rattle.queue.specs.Entries.{All, entries, ofList, paddedOf, rest}
@@ -155,7 +155,7 @@ sound-is c e =
       ready = λ h. unless-is (idle c) _ (t .ready) (ne-eqb (c .running) nobody h);
       named = λ h. named-is (ownerNow c) (c .running) (unless-is (idle c) _ (t .named) (ne-eqb (c .running) nobody h));
       flags = (leb-true (c .clock .started) 1 (both-left (leb (c .clock .started) 1) _ (t .numbers)), leb-true (c .clock .ticked) 1 (both-left (leb (c .clock .ticked) 1) _ n));
-      standings = λ k h. leb-true (vmAt c k .standing) 4 (every-is _ 8 (both-right (leb (c .clock .ticked) 1) _ n) k h);
+      standings = λ k h. leb-true (vmAt c k .standing) lastStanding (every-is _ 8 (both-right (leb (c .clock .ticked) 1) _ n) k h);
     }
 
 -- and a state that keeps W1 to W12 passes it
@@ -177,7 +177,7 @@ sound-of c s =
       named = unless-of (idle c) _ (λ h. named-of (ownerNow c) (c .running) (s .named (eqb-false (c .running) nobody h)));
       numbers = both-of (leb (c .clock .started) 1) _ (le-leb (c .clock .started) 1 (s .flags .0))
           (both-of (leb (c .clock .ticked) 1) _ (le-leb (c .clock .ticked) 1 (s .flags .1))
-          (every-of _ 8 (λ k h. le-leb (vmAt c k .standing) 4 (s .standings k h))));
+          (every-of _ 8 (λ k h. le-leb (vmAt c k .standing) lastStanding (s .standings k h))));
     })
 
 -- ---- what follows on sound states
@@ -257,7 +257,7 @@ module _ (c : Core) (n : length (c .vms) ≡ 8) (s : Sound c) where
       ]
 
   -- every standing is known, past the eight records too
-  pub standing-most : (k : ℕ) → vmAt c k .standing ≤ 4
+  pub standing-most : (k : ℕ) → vmAt c k .standing ≤ lastStanding
   standing-most k =
       elim (decLt k 8) [
         | yes l ↦ s .standings k l
