@@ -1,19 +1,25 @@
 -- The changes of one VM that events share (D11 to D30): what becomes of it, of who runs and of the queue, and what is told.
 use Prim.Native.Nat.{ℕ}
-use lib.Dec.{eqb, leb}
+use lib.Dec.{eqb, leb, ltb}
 use mathlib.Core.Bool.{Bool}
 use Rattle.basis.specs.Choice.{pick}
 use Rattle.basis.specs.Nobody.{nobody}
 use Rattle.change.specs.Answers.{errorOf, noNotice, noticeOf}
+use Rattle.change.specs.declared.Answer.{Answer}
 use Rattle.change.specs.declared.Change.{Change}
 use Rattle.change.specs.declared.Notice.{Notice}
-use Rattle.guest.specs.Deliver.{backFrom, deliver}
+use Rattle.guest.specs.Deliver.{backFrom, deliver, enter, quiet}
 use Rattle.guest.specs.Record.{downStanding, endedAs, errorStanding, pend, startedAt}
 use Rattle.guest.specs.declared.Delivery.{Delivery}
 use Rattle.guest.specs.declared.Vm.{Vm}
 use Rattle.queue.specs.Entries.{pushed, removal}
 use Rattle.queue.specs.declared.Queue.{Queue}
 use Rattle.vms.specs.Tick.{numberOf}
+
+-- A1: the answer that a change has, with its refusal, who runs and where
+abbrev pub answerBy : Change → ℕ → ℕ → ℕ → Answer
+answerBy d refusal running address =
+    record { refusal = refusal; running = running; address = address; delivered = d .delivered; notice = d .notice; result = d .result; removed = d .removed }
 
 -- nobody, where v was running
 unfoldable pub runningWithout : ℕ → ℕ → ℕ
@@ -58,6 +64,14 @@ turnedAwayFrom running queue v vm =
 -- D11, D12 within a Call
 abbrev pub deliveringFrom : ℕ → Queue → ℕ → Delivery → Change
 deliveringFrom running queue v d = renewedFrom running queue v (d .vm) (numberOf (d .number))
+
+-- D8, D9: the tick enters the VM that runs, and nobody from 8 on
+abbrev pub enteredAt : ℕ → Vm → ℕ → ℕ → Delivery
+enteredAt who vm left handler = pick (ltb who 8) (enter left handler vm) (quiet vm)
+
+-- D6 to D9: the VM that a Tick runs, with what the tick left of the queue
+abbrev pub tickingFrom : Queue → ℕ → Vm → ℕ → ℕ → Change
+tickingFrom queue who vm left handler = deliveringFrom who queue who (enteredAt who vm left handler)
 
 -- Call: D25 to D30, for VM v, whose next address is stored in vm
 unfoldable pub calledFrom : ℕ → Queue → Bool → ℕ → ℕ → ℕ → ℕ → Vm → Change

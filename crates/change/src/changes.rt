@@ -9,10 +9,10 @@ ghost use lib.Dec.{leb};
 ghost use mathlib.Core.Path.{_≡_};
 ghost use Rattle.basis.specs.Choice.{pick};
 ghost use Rattle.basis.specs.Nobody.{nobody};
-ghost use Rattle.change.specs.Answers.{errorOf};
-ghost use Rattle.change.specs.Changes.{calledFrom, deliveringFrom, endingFrom, failingFrom, renewedFrom, restartingFrom, runningWithout, turnedAwayFrom};
+ghost use Rattle.change.specs.Answers.{errorOf, noticeOf};
+ghost use Rattle.change.specs.Changes.{answerBy, calledFrom, deliveringFrom, endingFrom, failingFrom, renewedFrom, restartingFrom, runningWithout, tickingFrom, turnedAwayFrom};
 ghost use Rattle.guest.specs.Deliver.{deliver};
-ghost use Rattle.guest.specs.Record.{errorStanding, pend};
+ghost use Rattle.guest.specs.Record.{errorStanding, pend, stoppedStanding};
 ghost use Rattle.queue.specs.Entries.{pushed};
 ghost use Rattle.vms.specs.Tick.{numberOf};
 
@@ -34,6 +34,22 @@ impl Change {
         }
     }
 
+    // The answer of a change, with its refusal, who runs and where (A1).
+    pub fn answer(self, refusal: u8, running: u8, address: u32) -> Answer
+        ensures { λ r. ⌜ r ≡ answerBy self refusal running address ⌝ }
+    {
+        let notice = self.notice;
+        Answer {
+            refusal: refusal,
+            running: running,
+            address: address,
+            delivered: self.delivered,
+            notice: notice,
+            result: self.result,
+            removed: self.removed,
+        }
+    }
+
     // D11, D12 within a Call.
     pub fn delivering(v: u8, d: Delivery, running: u8, queue: Queue) -> Change
         ensures { λ r. ⌜ r ≡ renewedFrom running queue v (d .vm) (numberOf (d .number)) ⌝ }
@@ -41,6 +57,13 @@ impl Change {
         let vm = d.vm;
         let number = d.number;
         Change::renewed(v, vm, running, queue, vms::number_of(number))
+    }
+
+    // D6 to D9: the tick enters the VM that runs; `queue` is what the tick left of it.
+    pub fn ticking(who: u8, vm: Vm, queue: Queue, left: u32, handler: u32) -> Change
+        ensures { λ r. ⌜ r ≡ tickingFrom queue who vm left handler ⌝ }
+    {
+        Change::delivering(who, vm.entered_if(who < 8, left, handler), who, queue)
     }
 
     // D14, D15, A8: the VM ends, its entries leave the queue, and where it was running nobody runs.
@@ -60,6 +83,14 @@ impl Change {
             result: 0,
             removed: gone.count,
         }
+    }
+
+    // D14 to D16: the master stops it.
+    pub fn stopping(v: u8, vm: Vm, running: u8, queue: Queue) -> Change
+        ensures { λ r. ⌜ r ≡ endingFrom running queue v vm stoppedStanding (noticeOf 1 v) ⌝ }
+    {
+        let told = Notice::told(1, v, 0, 0);
+        Change::ending(v, vm, Vm::STOPPED, running, queue, told)
     }
 
     // D23.

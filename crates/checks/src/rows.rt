@@ -9,6 +9,20 @@ ghost use Rattle.basis.specs.Nobody.{nobody};
 ghost use Rattle.config.specs.Sizes.{within};
 ghost use Rattle.guest.specs.Write.{isField};
 
+// Start.
+pub fn of_start(started: u8) -> u8
+    ensures { λ r. ⌜ r ≡ pick (eqb started 1) 7 0 ⌝ }
+{
+    if started == Clock::YES { 7 } else { 0 }
+}
+
+// Tick.
+pub fn of_tick(started: u8) -> u8
+    ensures { λ r. ⌜ r ≡ pick (not (eqb started 1)) 2 0 ⌝ }
+{
+    if started == Clock::YES { 0 } else { 2 }
+}
+
 // Stop and Shutdown.
 pub fn of_ready(started: u8, count: u8, v: u8, ready: bool) -> u8
     ensures { λ r. ⌜ r ≡ pick (not (eqb started 1)) 2 (pick (not (ltb v count)) 3 (pick (not ready) 4 0)) ⌝ }

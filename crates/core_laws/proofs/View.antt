@@ -15,7 +15,7 @@ use Rattle.config.proofs.Legality.{within-is, within-of}
 use Rattle.config.specs.Sizes.{within}
 use Rattle.core.specs.Changes.{answering, changedBy}
 use Rattle.core.specs.Events.{done, startCore, stepOf, tickCore, tickTurn}
-use Rattle.core.specs.Refusals.{refusalOf, refused, rowOf, strayFault, strayWrite}
+use Rattle.core.specs.Refusals.{refusalOf, refused, rowOf}
 use Rattle.core.specs.Sound.{sound}
 use Rattle.core.specs.State.{full, idle, readyAt}
 use Rattle.core.specs.declared.Core.{Core}
@@ -27,6 +27,7 @@ use Rattle.guest.specs.Deliver.{backFrom, deliver}
 use Rattle.guest.specs.Record.{pend}
 use Rattle.guest.specs.Write.{isField}
 use Rattle.guest.specs.declared.Vm.{Vm}
+use Rattle.logic.specs.Rows.{strayFault, strayWrite}
 use Rattle.queue.specs.declared.Queue.{Queue}
 use Rattle.table.specs.Position.{isStarted}
 

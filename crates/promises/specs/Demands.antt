@@ -14,7 +14,6 @@ use Rattle.change.specs.declared.Notice.{Notice}
 use Rattle.config.specs.Ranges.{Given}
 use Rattle.config.specs.Sizes.{entryAt, handlerAt}
 use Rattle.config.specs.declared.Config.{Config}
-use Rattle.core.specs.Refusals.{strayFault, strayWrite}
 use Rattle.core.specs.Sound.{sound}
 use Rattle.core.specs.State.{addressOf, full, idle, readyAt, vmAt}
 use Rattle.core.specs.declared.Core.{Core}
@@ -29,6 +28,7 @@ use Rattle.guest.specs.declared.Vm.{Vm}
 use Rattle.history.specs.History.{Behaviour, Each, Moment, after, history, next, sinceLast, stateOf, stretch, ticking, ticksOf, times, went}
 use Rattle.history.specs.Moments.{asks, begins, ends, handed, naming, ranIn, runs, spare}
 use Rattle.history.specs.Queueing.{Follows, effect, marked, plain, removedFrom, removedIn, removes, servedIn}
+use Rattle.logic.specs.Rows.{strayFault, strayWrite}
 use Rattle.queue.specs.Entries.{entries, entriesOf}
 use Rattle.table.specs.Place.{Stands}
 use Rattle.table.specs.Position.{isStarted}

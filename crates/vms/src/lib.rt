@@ -134,7 +134,7 @@ pub fn turned(
 }
 
 // Who runs in a slot, where `ready` says it of the record that the owner's number leads to.
-fn runner(owner: u8, head: u8, ready: bool) -> u8
+pub fn runner(owner: u8, head: u8, ready: bool) -> u8
     ensures { λ r. ⌜ r ≡ pick (isSpare owner) head (pick (ltb owner 8) (pick ready owner nobody) nobody) ⌝ }
 {
     if owner == Config::SPARE {
@@ -149,7 +149,8 @@ fn runner(owner: u8, head: u8, ready: bool) -> u8
     basis::NOBODY
 }
 
-fn if_vm(who: u8, address: u32) -> u32
+// An address that is a VM's; 0 from 8 on.
+pub fn if_vm(who: u8, address: u32) -> u32
     ensures { λ r. ⌜ r ≡ pick (ltb who 8) address 0 ⌝ }
 {
     if who < 8 { address } else { 0 }
@@ -165,7 +166,8 @@ pub fn number_of(f: Found) -> u8
     }
 }
 
-fn at_most_8(count: u8) -> usize
+// A count that the eight records bear.
+pub fn at_most_8(count: u8) -> usize
     ensures { λ r. ⌜ r ≡ min count 8 ⌝ }
 {
     if count < 8 { count as usize } else { 8 }
