@@ -22,4 +22,3 @@ returns-2 c = address-past _ _ _ (c .if1 .left)
 pub address-at-spec : {M : Type 1} → statement M
 address-at-spec =
     tie.close (tie.spec mul-result mul-result-2 shared-slice-read-result returns returns-2)
-

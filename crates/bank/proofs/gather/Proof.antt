@@ -63,4 +63,3 @@ gather-spec =
     loop-less
     loop-again
     returns)
-

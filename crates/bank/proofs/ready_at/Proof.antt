@@ -15,4 +15,3 @@ returns-2 c = ready-past _ _ _ (c .if1 .left)
 
 pub ready-at-spec : {M : Type 1} → statement M
 ready-at-spec = tie.close (tie.spec shared-slice-read-result returns returns-2)
-

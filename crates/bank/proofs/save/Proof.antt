@@ -24,4 +24,3 @@ returns-2 c = save-past _ _ _ _ (c .if1 .left)
 
 pub save-spec : {M : Type 1} → statement M
 save-spec = tie.close (tie.spec mul-words mul-words-2 slice-write-words same-length returns returns-2)
-

@@ -67,4 +67,3 @@ spread-spec =
     same-length
     same-length-2
     returns)
-

@@ -68,4 +68,3 @@ start-all-spec =
     same-length
     same-length-2
     returns)
-
