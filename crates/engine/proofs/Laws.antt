@@ -26,7 +26,8 @@ use Rattle.core.specs.Refusals.{refused, rowOf}
 use Rattle.core.specs.State.{full, idle, readyAt, vmAt}
 use Rattle.core.specs.declared.Core.{Core}
 use Rattle.core.specs.declared.Stepped.{Stepped}
-use Rattle.engine.specs.Engine.{Does, Moves, Settles, aboutVm, coreOf, leftBy, refusedAt}
+use Rattle.engine.specs.Engine.{Does, Moves, Settles, aboutVm, configOf, coreOf, countsOf, leftBy, refusedAt, standOf}
+use Rattle.engine.specs.declared.Counts.{Counts}
 use Rattle.engine.specs.declared.Moved.{Moved}
 use Rattle.engine.specs.declared.Stand.{Stand}
 use Rattle.event.proofs.Event.{the-type}
@@ -244,6 +245,15 @@ refusing-law standings words p n x a hx ha = rw (ha, hx)
 pub whole-law : (g : Config) (standings words : List ℕ) (p : Stand) (l : List Vm) → l ≡ vmsOf standings words
     → record { config = g; clock = p .clock; running = p .running; queue = p .queue; vms = l } ≡ coreOf g standings words p
 whole-law g standings words p l h = rw h
+
+-- a state is what its bank and the rest stand for
+pub core-is : (c : Core) (standings words : List ℕ) (p : Stand) → vmsOf standings words ≡ c .vms → p ≡ standOf c → coreOf (c .config) standings words p ≡ c
+core-is c standings words p h k = rw (h, k)
+
+-- a step by a configuration's own parts is the event on it
+pub step-is : {g : Config} {k : Counts} {standings words standings′ words′ : List ℕ} {p : Stand} {e : Event} {m : Moved} → k ≡ countsOf g
+    → Moves (configOf k (g .owners) (g .durations) (g .entries) (g .handlers)) standings words standings′ words′ p e m → leftBy g standings′ words′ m ≡ innerOf (coreOf g standings words p) e
+step-is h w = rw h at (w .same)
 
 -- the arm of the seven events about a VM
 pub from-two : (n : ℕ) → (n ≡ 2) ⊎ ((n ≡ 3) ⊎ ((n ≡ 4) ⊎ ((n ≡ 5) ⊎ ((n ≡ 6) ⊎ ((n ≡ 7) ⊎ (n ≡ 8)))))) → 2 ≤ n

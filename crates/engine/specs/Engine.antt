@@ -26,6 +26,12 @@ use Rattle.table.specs.declared.Clock.{Clock}
 abbrev pub aboutVm : Event → Bool
 aboutVm e = either (ofMaster e) (ofRunning e)
 
+abbrev pub countsOf : Config → Counts
+countsOf g = record { count = g .count; room = g .room; slots = g .slots }
+
+abbrev pub standOf : Core → Stand
+standOf c = record { clock = c .clock; running = c .running; queue = c .queue }
+
 abbrev pub configOf : Counts → List ℕ → List ℕ → List ℕ → List ℕ → Config
 configOf g owners durations entries handlers =
     record { count = g .count; room = g .room; slots = g .slots; entries = entries; handlers = handlers; owners = owners; durations = durations }

@@ -12,7 +12,8 @@ ghost use lib.ListN.{length};
 ghost use mathlib.Core.Bool.{true};
 ghost use mathlib.Core.List.{List};
 ghost use mathlib.Core.Path.{_≡_};
-ghost use Rattle.engine.specs.Engine.{Does, Moves, Settles, aboutVm, configOf, coreOf, refusedAt};
+ghost use Rattle.config.specs.Ranges.{Sized};
+ghost use Rattle.engine.specs.Engine.{Does, Moves, Settles, aboutVm, configOf, coreOf, countsOf, refusedAt, standOf};
 ghost use Rattle.logic.specs.Changing.{placeFrom};
 
 // The state but for the configuration and the VM records.
@@ -32,6 +33,33 @@ pub struct Counts {
     pub count: u8,
     pub room: u8,
     pub slots: u8,
+}
+
+// What the types say of a configuration's lists.
+pub fn sized(config: Config)
+    ensures { λ _. ⌜ Sized config ⌝ }
+{}
+
+pub fn counts_of(config: Config) -> Counts
+    ensures { λ r. ⌜ r ≡ countsOf config ⌝ }
+{
+    Counts {
+        count: config.count,
+        room: config.room,
+        slots: config.slots,
+    }
+}
+
+pub fn stand_of(core: Core) -> Stand
+    ensures { λ r. ⌜ r ≡ standOf core ⌝ }
+{
+    let clock = core.clock;
+    let queue = core.queue;
+    Stand {
+        clock: clock,
+        running: core.running,
+        queue: queue,
+    }
 }
 
 // An event on the bank: refused, or done (R1).
