@@ -1,13 +1,13 @@
 -- An event over a bank is the event: refused, a tick, a start, a change of one VM.
-use Prim.Native.Nat.{suc, zero, ℕ, _<_, _≤_}
-use borrow.Author.Tests.{eq-eqb, ltb-false, ne-eqb}
+use Prim.Native.Nat.{suc, zero, ℕ, _≤_}
+use borrow.Author.Tests.{ltb-false, ne-eqb}
 use denote.Enum.Declared.{tagOf}
 use lib.Dec.{eqb, leb, ltb}
 use lib.ListN.{List·getD-eq-default, getD, length, set}
 use mathlib.Core.Bool.{Bool, false, not, true}
 use mathlib.Core.List.{List}
 use mathlib.Core.Logic.{inl, inr, _⊎_}
-use mathlib.Core.Path.{ap, refl, sym, _∙_, _≡_}
+use mathlib.Core.Path.{ap, refl, _∙_, _≡_}
 use native.Mathlib.Omega.{arith}
 use Rattle.bank.proofs.Laws.{eight}
 use Rattle.bank.specs.Bank.{vmsOf}
@@ -25,7 +25,6 @@ use Rattle.core.specs.Events.{done, innerOf, startCore}
 use Rattle.core.specs.Refusals.{refused, rowOf}
 use Rattle.core.specs.State.{full, idle, readyAt, vmAt}
 use Rattle.core.specs.declared.Core.{Core}
-use Rattle.core.specs.declared.Stepped.{Stepped}
 use Rattle.engine.specs.Engine.{Does, Moves, Settles, aboutVm, configOf, coreOf, countsOf, leftBy, refusedAt, standOf}
 use Rattle.engine.specs.declared.Counts.{Counts}
 use Rattle.engine.specs.declared.Moved.{Moved}
@@ -45,7 +44,7 @@ use Rattle.queue.specs.declared.Served.{Served}
 use Rattle.table.specs.Position.{nextClock, startedClock}
 use Rattle.table.specs.declared.Clock.{Clock}
 use Rattle.vms.specs.Records.{agedAll, startedAll}
-use Rattle.vms.specs.Tick.{entering, numberOf, passed, runnerOf, saving, turn, turnBy}
+use Rattle.vms.specs.Tick.{entering, passed, runnerOf, saving, turn, turnBy}
 use Rattle.vms.specs.declared.Turn.{Turn}
 
 -- ---- the row of an event

@@ -8,7 +8,6 @@ use Rattle.bank.specs.Bank.{vmsOf}
 use Rattle.basis.specs.Choice.{either}
 use Rattle.change.specs.Answers.{quietly}
 use Rattle.change.specs.Changes.{answerBy}
-use Rattle.change.specs.declared.Answer.{Answer}
 use Rattle.change.specs.declared.Change.{Change}
 use Rattle.config.specs.declared.Config.{Config}
 use Rattle.core.specs.Events.{done, innerOf}

@@ -2,7 +2,6 @@
 // Everything that runs events uses it.
 use change::Answer;
 use change::Change;
-use change::Notice;
 use checks::rows;
 use event::Event;
 use guest::Vm;

@@ -1,10 +1,6 @@
 // The figures of a tick report: those of a row of logs, counted from the answers alone (N13 to N17, N19, N20).
 mod count;
 
-use core::Core;
-use count::Count;
-use count::Marks;
-use table::Clock;
 ghost use mathlib.Core.Path.{_≡_};
 ghost use Rattle.tally.specs.Counting.{noTally, withLog};
 
@@ -46,15 +42,6 @@ impl Tally {
             return self;
         }
         let config = r.config;
-        let core = Core::fresh(config);
-        let clock = Clock::fresh();
-        let c = Count {
-            core: core,
-            marks: Marks {
-                clock: clock,
-                tally: self,
-            },
-        };
-        count::run(c, config, log)
+        count::run(self, config, log)
     }
 }

@@ -1,12 +1,11 @@
 -- One record more at each turn.
-use Prim.Native.Nat.{ℕ, _-_, _≤_}
+use Prim.Native.Nat.{_-_, _≤_}
 use lib.ListN.{length, length-set}
-use mathlib.Core.Path.{refl, _∙_, _≡_}
+use mathlib.Core.Path.{refl, _≡_}
 use native.Mathlib.Omega.{arith}
-use Rattle.basis.proofs.Laws.{length-mapped}
 use Rattle.bank.proofs.Laws.{copied, copied-end, eight}
 use Rattle.bank.specs.Bank.{vmsOf}
-use Rattle.vms.proofs.Laws.{each-length, each-more, each-none}
+use Rattle.vms.proofs.Laws.{each-more, each-none}
 use borrow.Author.Needs.{needs}
 use Rattle.bank.proofs.gather.Statement.{statement}
 use Rattle.bank.proofs.gather.Tie as tie

@@ -1,7 +1,7 @@
 -- One record more at each turn.
-use Prim.Native.Nat.{ℕ, _-_, _≤_}
+use Prim.Native.Nat.{_-_, _≤_}
 use lib.ListN.{length}
-use mathlib.Core.Path.{refl, _∙_, _≡_}
+use mathlib.Core.Path.{refl, _≡_}
 use native.Mathlib.Omega.{arith}
 use Rattle.basis.proofs.Laws.{length-mapped}
 use Rattle.bank.proofs.Laws.{copied, copied-end, eight}

@@ -3,7 +3,6 @@ use Rattle.engine.proofs.Laws.{change-does}
 use Rattle.engine.proofs.change.Statement.{statement}
 use Rattle.engine.proofs.change.Tie as tie
 use borrow.Author.Needs.{needs}
-use native.Mathlib.Omega.{arith}
 
 vm-at-requires : tie.Need-vm-at-requires
 vm-at-requires c κs = search needs

@@ -1,9 +1,9 @@
 -- Nothing where the image is refused or the log is too long; else what its events show.
-use borrow.Author.Needs.{needs}
-use native.Mathlib.Omega.{arith}
 use Rattle.tally.proofs.Tally.with_log.Statement.{statement}
 use Rattle.tally.proofs.Tally.with_log.Tie as tie
 use Rattle.tally.proofs.Whole.{log-long, log-refused, log-run}
+use borrow.Author.Needs.{needs}
+use native.Mathlib.Omega.{arith}
 
 read-requires : tie.Need-read-requires
 read-requires c κs = search needs
@@ -14,17 +14,11 @@ returns c = log-refused _ _ _ (c .before .before .read .ensures) (c .if1 .taken)
 returns-2 : tie.Need-returns-2
 returns-2 c = log-long _ _ _ (c .before .before .before .read .ensures) (c .before .if1 .left) (omega (arith, c .if2 .taken))
 
-fresh-requires : tie.Need-fresh-requires
-fresh-requires c κs = search needs
-
-fresh-requires-2 : tie.Need-fresh-requires-2
-fresh-requires-2 c κs = search needs
-
 run-requires : tie.Need-run-requires
 run-requires c κs = search needs
 
 returns-3 : tie.Need-returns-3
-returns-3 c = log-run _ _ _ (c .before .before .before .before .before .before .before .read .ensures) (λ i. c .before .before .before .before .before .before .before .before .before .shared-slice-known .given i .fits) (c .before .before .before .before .before .if1 .left) (omega (arith, c .before .before .before .before .if2 .left)) (c .before .before .fresh .ensures) (c .before .fresh2 .ensures) (c .run .ensures)
+returns-3 c = log-run _ _ _ (c .before .before .before .before .before .read .ensures) (λ i. c .before .before .before .before .before .before .before .shared-slice-known .given i .fits) (c .before .before .before .if1 .left) (omega (arith, c .before .before .if2 .left)) (c .run .ensures)
 
 pub with-log-spec : {M : Type 1} → statement M
 with-log-spec =
@@ -33,7 +27,5 @@ with-log-spec =
     read-requires
     returns
     returns-2
-    fresh-requires
-    fresh-requires-2
     run-requires
     returns-3)
