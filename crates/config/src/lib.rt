@@ -56,7 +56,7 @@ impl Config {
         let slots = self.slots;
         let owners = self.owners;
         if slots <= Config::SLOTS {
-            places::vms_served(self.count, slots, &owners)
+            places::each_served(self.count, slots, &owners)
         } else {
             false
         }

@@ -1,7 +1,7 @@
 -- The counts, then the places (`legal-law`).
 use borrow.Author.Needs.{needs}
 use mathlib.Core.Path.{refl}
-use Rattle.config.proofs.Legality.{legal-both, legal-never, slots-64}
+use Rattle.config.proofs.Legality.{count-8, count-some, legal-both, legal-never, slots-64}
 use Rattle.config.proofs.parts_legal.Statement.{statement}
 use Rattle.config.proofs.parts_legal.Tie as tie
 
@@ -9,7 +9,7 @@ counts-fit-requires : tie.Need-counts-fit-requires
 counts-fit-requires c κs = search needs
 
 all-fit-requires : tie.Need-all-fit-requires
-all-fit-requires c κs = search (needs, slots-64)
+all-fit-requires c κs = search (needs, count-some, count-8, slots-64)
 
 returns : tie.Need-returns
 returns c = legal-both _ _ _ (c .before .before .counts-fit .ensures) (c .all-fit .ensures) (c .before .if1 .taken)
