@@ -9,7 +9,7 @@ ghost use lib.Dec.{eqb, leb, ltb};
 ghost use lib.ListN.{getD};
 ghost use mathlib.Core.Bool.{not};
 ghost use mathlib.Core.Path.{_≡_};
-ghost use Rattle.basis.specs.Choice.{both, either};
+ghost use Rattle.basis.specs.Choice.{both, either, pick};
 ghost use Rattle.basis.specs.Count.{every};
 ghost use Rattle.basis.specs.Nobody.{nobody};
 ghost use Rattle.checks.specs.Sound.{soundFrom};
@@ -112,13 +112,13 @@ fn start_sound(k: Clock, idle: bool, queued: u8, standings: &[u8; 8]) -> bool
 fn none_ready(standings: &[u8; 8]) -> bool
     ensures { λ r. ⌜ r ≡ noneIn (now (standings .entry)) ⌝ }
 {
-    let mut ok = true;
+    let mut bits: u8 = 0;
     let mut k: usize = 0;
     while k < 8 {
-        ok = both(standings[k] != Vm::READY, ok);
+        bits = bits | fault(standings[k] != Vm::READY);
         k = k + 1;
     }
-    ok
+    bits == 0
 }
 
 // W8, W9.
@@ -169,13 +169,20 @@ fn numbers_known(k: Clock, standings: &[u8; 8]) -> bool
 fn standings_known(standings: &[u8; 8]) -> bool
     ensures { λ r. ⌜ r ≡ every (λ j. leb (getD (now (standings .entry)) j 0) lastStanding) 8 ⌝ }
 {
-    let mut ok = true;
+    let mut bits: u8 = 0;
     let mut k: usize = 0;
     while k < 8 {
-        ok = both(standings[k] <= Vm::LAST, ok);
+        bits = bits | fault(standings[k] <= Vm::LAST);
         k = k + 1;
     }
-    ok
+    bits == 0
+}
+
+// A test as a bit, so that many are joined as one number.
+fn fault(passed: bool) -> u8
+    ensures { λ r. ⌜ r ≡ pick passed 0 1 ⌝ }
+{
+    if passed { 0 } else { 1 }
 }
 
 // All of them.
