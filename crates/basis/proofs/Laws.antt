@@ -169,6 +169,25 @@ or-none a b =
       | no h ↦ (let z : b ≡ 0 = omega arith in rw (z, or-zero-r a))
     ]
 
+-- a turn of a loop that joins faults: x is 0 where place k passes, else 1
+pub fault-more : (p : ℕ → Bool) (k x bits y : ℕ) → eqb bits 0 ≡ every p k → x ≡ pick (p k) 0 1 → y ≡ bitOr bits x → eqb y 0 ≡ every p (k + 1)
+fault-more p k x bits y e f g = every-more p k (eqb bits 0) (eqb y 0) e (rw (g, or-none bits x, f) (go (p k)))
+  where
+    go : (t : Bool) → both (eqb (pick t 0 1) 0) (eqb bits 0) ≡ both t (eqb bits 0)
+    go true = refl
+    go false = refl
+
+-- two tests that agree below n
+pub every-below : (p q : ℕ → Bool) (n : ℕ) → ((k : ℕ) → k < n → p k ≡ q k) → every p n ≡ every q n
+unfolding every
+every-below p q zero h = refl
+every-below p q (suc n) h = rw (h n (omega arith), every-below p q n (λ k l. h k (omega arith)))
+
+pub some-below : (p q : ℕ → Bool) (n : ℕ) → ((k : ℕ) → k < n → p k ≡ q k) → some p n ≡ some q n
+unfolding some
+some-below p q zero h = refl
+some-below p q (suc n) h = rw (h n (omega arith), some-below p q n (λ k l. h k (omega arith)))
+
 pub ruleset picks = (ways, pick-true, pick-false)
 
 pub ruleset turns = (ways, every-none, every-more, some-none, some-more, upTo-none, upTo-more)

@@ -1,4 +1,4 @@
-// The tests of soundness (W2 to W12) over small values: numbers, the clock, the queue, and the standings of the eight VMs.
+// The test of soundness (W1 to W12) over the parts of a state, and the tests that it joins: of the queue, the clock, the runner, and the standings of the eight VMs.
 use basis::tests::both;
 use config::Config;
 use guest::Vm;
@@ -9,17 +9,50 @@ ghost use lib.Dec.{eqb, leb, ltb};
 ghost use lib.ListN.{getD};
 ghost use mathlib.Core.Bool.{not};
 ghost use mathlib.Core.Path.{_≡_};
-ghost use Rattle.basis.specs.Choice.{both, either};
+ghost use Rattle.basis.specs.Choice.{both, either, pick};
 ghost use Rattle.basis.specs.Count.{every};
 ghost use Rattle.basis.specs.Nobody.{nobody};
+ghost use Rattle.checks.specs.Sound.{soundFrom};
 ghost use Rattle.checks.specs.Standings.{noneIn, readyIn};
-ghost use Rattle.config.specs.Sizes.{isSpare, within};
+ghost use Rattle.config.specs.Sizes.{configOf, isSpare, within};
 ghost use Rattle.guest.specs.Record.{lastStanding};
 ghost use Rattle.queue.specs.Entries.{paddedOf};
 ghost use Rattle.table.specs.Position.{hasTicked, isStarted};
 
+// W1 to W12 of the parts of a state; the test of the configuration, the longest, comes last.
+pub fn parts_sound(
+    vms: [Vm; 8],
+    clock: Clock,
+    running: u8,
+    queue: Queue,
+    count: u8,
+    room: u8,
+    slots: u8,
+    entries: &[u32; 8],
+    handlers: &[u32; 8],
+    owners: &[u8; 64],
+    durations: &[u16; 64],
+) -> bool
+    ensures { λ r. ⌜ r ≡ soundFrom (configOf count room slots (now (entries .entry)) (now (handlers .entry)) (now (owners .entry)) (now (durations .entry))) clock running queue vms ⌝ }
+{
+    let rest = vms::rest_fresh(vms, count);
+    let standings = vms::standings(vms);
+    let queued = queue_sound(queue, room, &standings);
+    let begun = start_sound(clock, running == basis::NOBODY, queue.len, &standings);
+    let duration = table::duration_at(clock.slot, durations);
+    let placed = clock_sound(clock, slots, duration);
+    let owner = table::owner_at(clock.slot, owners);
+    let runs = runner_sound(running, owner, is_ready(&standings, running));
+    let known = numbers_known(clock, &standings);
+    if all(rest, queued, begun, placed, runs, known) {
+        config::parts_legal(count, room, slots, entries, handlers, owners, durations)
+    } else {
+        false
+    }
+}
+
 // Whether VM v is ready; there is none past the last.
-pub fn is_ready(standings: &[u8], v: u8) -> bool
+fn is_ready(standings: &[u8], v: u8) -> bool
     ensures { λ r. ⌜ r ≡ readyIn (now (standings .entry)) v ⌝ }
 {
     let i = v as usize;
@@ -30,11 +63,13 @@ pub fn is_ready(standings: &[u8], v: u8) -> bool
     }
 }
 
-// W3, W4, W5.
-pub fn queue_sound(q: Queue, room: u8, standings: &[u8]) -> bool
-    requires { ⌜ room ≤ 16 ⌝ }
-    ensures { λ r. ⌜ r ≡ both (leb (q .len) room) (both (every (λ k. readyIn (now (standings .entry)) (getD (q .items) k 0)) (q .len)) (paddedOf q)) ⌝ }
+// W3, W4, W5; no queue is longer than its 16 places.
+fn queue_sound(q: Queue, room: u8, standings: &[u8]) -> bool
+    ensures { λ r. ⌜ r ≡ both (leb (q .len) 16) (both (leb (q .len) room) (both (every (λ k. readyIn (now (standings .entry)) (getD (q .items) k 0)) (q .len)) (paddedOf q))) ⌝ }
 {
+    if Queue::PLACES < q.len {
+        return false;
+    }
     if room < q.len {
         return false;
     }
@@ -58,7 +93,7 @@ fn entries_ready(items: &[u8; 16], len: u8, standings: &[u8]) -> bool
 }
 
 // W6, W7.
-pub fn start_sound(k: Clock, idle: bool, queued: u8, standings: &[u8; 8]) -> bool
+fn start_sound(k: Clock, idle: bool, queued: u8, standings: &[u8; 8]) -> bool
     ensures { λ r. ⌜ r ≡ both (either (hasTicked k) idle) (either (isStarted k) (both (noneIn (now (standings .entry))) (both (eqb queued 0) (both idle (not (hasTicked k)))))) ⌝ }
 {
     if k.ticked == Clock::YES {
@@ -77,17 +112,17 @@ pub fn start_sound(k: Clock, idle: bool, queued: u8, standings: &[u8; 8]) -> boo
 fn none_ready(standings: &[u8; 8]) -> bool
     ensures { λ r. ⌜ r ≡ noneIn (now (standings .entry)) ⌝ }
 {
-    let mut ok = true;
+    let mut bits: u8 = 0;
     let mut k: usize = 0;
     while k < 8 {
-        ok = both(standings[k] != Vm::READY, ok);
+        bits = bits | fault(standings[k] != Vm::READY);
         k = k + 1;
     }
-    ok
+    bits == 0
 }
 
 // W8, W9.
-pub fn clock_sound(k: Clock, slots: u8, duration: u16) -> bool
+fn clock_sound(k: Clock, slots: u8, duration: u16) -> bool
     ensures { λ r. ⌜ r ≡ both (either (not (hasTicked k)) (ltb (k .slot) slots)) (either (not (hasTicked k)) (within 1 duration (k .left))) ⌝ }
 {
     if k.ticked == Clock::YES {
@@ -103,7 +138,7 @@ pub fn clock_sound(k: Clock, slots: u8, duration: u16) -> bool
 }
 
 // W10, W11.
-pub fn runner_sound(running: u8, owner: u8, ready: bool) -> bool
+fn runner_sound(running: u8, owner: u8, ready: bool) -> bool
     ensures { λ r. ⌜ r ≡ both (either (eqb running nobody) ready) (either (eqb running nobody) (either (eqb owner running) (isSpare owner))) ⌝ }
 {
     if running == basis::NOBODY {
@@ -119,7 +154,7 @@ pub fn runner_sound(running: u8, owner: u8, ready: bool) -> bool
 }
 
 // W12.
-pub fn numbers_known(k: Clock, standings: &[u8; 8]) -> bool
+fn numbers_known(k: Clock, standings: &[u8; 8]) -> bool
     ensures { λ r. ⌜ r ≡ both (leb (k .started) 1) (both (leb (k .ticked) 1) (every (λ j. leb (getD (now (standings .entry)) j 0) lastStanding) 8)) ⌝ }
 {
     if 1 < k.started {
@@ -134,17 +169,24 @@ pub fn numbers_known(k: Clock, standings: &[u8; 8]) -> bool
 fn standings_known(standings: &[u8; 8]) -> bool
     ensures { λ r. ⌜ r ≡ every (λ j. leb (getD (now (standings .entry)) j 0) lastStanding) 8 ⌝ }
 {
-    let mut ok = true;
+    let mut bits: u8 = 0;
     let mut k: usize = 0;
     while k < 8 {
-        ok = both(standings[k] <= Vm::LAST, ok);
+        bits = bits | fault(standings[k] <= Vm::LAST);
         k = k + 1;
     }
-    ok
+    bits == 0
+}
+
+// A test as a bit, so that many are joined as one number.
+fn fault(passed: bool) -> u8
+    ensures { λ r. ⌜ r ≡ pick passed 0 1 ⌝ }
+{
+    if passed { 0 } else { 1 }
 }
 
 // All of them.
-pub fn all(a: bool, b: bool, c: bool, d: bool, e: bool, f: bool) -> bool
+fn all(a: bool, b: bool, c: bool, d: bool, e: bool, f: bool) -> bool
     ensures { λ r. ⌜ r ≡ both a (both b (both c (both d (both e f)))) ⌝ }
 {
     both(a, both(b, both(c, both(d, both(e, f)))))

@@ -58,6 +58,12 @@ pub slots-64 : (count room slots : ℕ) (a : Bool) → a ≡ both (within 1 8 co
 slots-64 count room slots a e t =
     leb-true slots 64 (both-right (leb 1 slots) _ (both-right (leb room 16) _ (both-right (within 1 8 count) _ (sym e ∙ t))))
 
+pub count-some : (count room slots : ℕ) (a : Bool) → a ≡ both (within 1 8 count) (both (leb room 16) (within 1 64 slots)) → a ≡ true → 1 ≤ count
+count-some count room slots a e t = leb-true 1 count (both-left (leb 1 count) _ (both-left (within 1 8 count) _ (sym e ∙ t)))
+
+pub count-8 : (count room slots : ℕ) (a : Bool) → a ≡ both (within 1 8 count) (both (leb room 16) (within 1 64 slots)) → a ≡ true → count ≤ 8
+count-8 count room slots a e t = leb-true count 8 (both-right (leb 1 count) _ (both-left (within 1 8 count) _ (sym e ∙ t)))
+
 -- at least a and at most b
 pub within-is : (a b n : ℕ) → within a b n ≡ true → (a ≤ n) × (n ≤ b)
 within-is a b n e = (leb-true a n (both-left (leb a n) (leb n b) e), leb-true n b (both-right (leb a n) (leb n b) e))

@@ -1,3 +1,4 @@
 pub mod Legality
+pub mod Walks
 pub mod Values
 pub mod Unique

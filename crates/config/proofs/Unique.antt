@@ -3,11 +3,16 @@ use mathlib.Core.Path.{sym, _∙_}
 use Rattle.basis.proofs.Unique.{OneAnswer}
 use Rattle.config.proofs.Config.legal.Kinds as legal-kinds
 use Rattle.config.proofs.Config.legal.Reads as legal-reads
+use Rattle.config.proofs.parts_legal.Kinds as parts-kinds
+use Rattle.config.proofs.parts_legal.Reads as parts-reads
 use Rattle.config.proofs.Config.serves_all.Kinds as serves-kinds
 use Rattle.config.proofs.Config.serves_all.Reads as serves-reads
 
 pub legal-one : OneAnswer 0 legal-kinds.ps legal-kinds.r legal-reads.Post
 legal-one κs a x y s t p q = p ∙ sym q
+
+pub parts-one : OneAnswer 4 parts-kinds.ps parts-kinds.r parts-reads.Post
+parts-one κs a x y s t p q = p ∙ sym q
 
 pub serves-one : OneAnswer 0 serves-kinds.ps serves-kinds.r serves-reads.Post
 serves-one κs a x y s t p q = p ∙ sym q

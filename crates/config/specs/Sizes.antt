@@ -3,12 +3,18 @@ use Prim.Native.Nat.{ℕ, _<_, _≤_}
 use lib.Dec.{eqb, leb, ltb}
 use lib.ListN.{getD}
 use mathlib.Core.Bool.{Bool}
+use mathlib.Core.List.{List}
 use mathlib.Core.Logic.{_⊎_}
 use mathlib.Core.Path.{_≡_}
 use Rattle.basis.specs.Choice.{both, either, pick}
 use Rattle.basis.specs.Count.{every, some}
 use Rattle.basis.specs.Nobody.{nobody}
 use Rattle.config.specs.declared.Config.{Config}
+
+-- a configuration by its parts
+abbrev pub configOf : ℕ → ℕ → ℕ → List ℕ → List ℕ → List ℕ → List ℕ → Config
+configOf count room slots entries handlers owners durations =
+    record { count = count; room = room; slots = slots; entries = entries; handlers = handlers; owners = owners; durations = durations }
 
 -- what stands at place k
 abbrev pub entryAt : Config → ℕ → ℕ

@@ -5,7 +5,7 @@ ghost use lib.Dec.{leb};
 ghost use mathlib.Core.Path.{_≡_};
 ghost use Rattle.basis.specs.Choice.{both};
 ghost use Rattle.config.specs.Ranges.{Typed};
-ghost use Rattle.config.specs.Sizes.{legal, vmsServed, within};
+ghost use Rattle.config.specs.Sizes.{configOf, legal, vmsServed, within};
 
 // A configuration. It has 8 places for VMs and 64 for slots.
 #[repr(C)]
@@ -34,17 +34,19 @@ impl Config {
     pub fn legal(self) -> bool
         ensures { λ r. ⌜ r ≡ legal self ⌝ }
     {
-        let count = self.count;
-        let slots = self.slots;
-        if counts_fit(count, self.room, slots) {
-            let entries = self.entries;
-            let handlers = self.handlers;
-            let owners = self.owners;
-            let durations = self.durations;
-            places::all_fit(count, slots, &entries, &handlers, &owners, &durations)
-        } else {
-            false
-        }
+        let entries = self.entries;
+        let handlers = self.handlers;
+        let owners = self.owners;
+        let durations = self.durations;
+        parts_legal(
+            self.count,
+            self.room,
+            self.slots,
+            &entries,
+            &handlers,
+            &owners,
+            &durations,
+        )
     }
 
     // S6: whether each VM has a slot; no table is longer than 64 slots.
@@ -54,7 +56,7 @@ impl Config {
         let slots = self.slots;
         let owners = self.owners;
         if slots <= Config::SLOTS {
-            places::vms_served(self.count, slots, &owners)
+            places::each_served(self.count, slots, &owners)
         } else {
             false
         }
@@ -65,6 +67,25 @@ impl Config {
 pub fn typed(c: Config)
     ensures { λ _. ⌜ Typed c ⌝ }
 {}
+
+// The same test of a configuration that is lent in its parts, so that nothing is copied.
+pub fn parts_legal(
+    count: u8,
+    room: u8,
+    slots: u8,
+    entries: &[u32; 8],
+    handlers: &[u32; 8],
+    owners: &[u8; 64],
+    durations: &[u16; 64],
+) -> bool
+    ensures { λ r. ⌜ r ≡ legal (configOf count room slots (now (entries .entry)) (now (handlers .entry)) (now (owners .entry)) (now (durations .entry))) ⌝ }
+{
+    if counts_fit(count, room, slots) {
+        places::all_fit(count, slots, entries, handlers, owners, durations)
+    } else {
+        false
+    }
+}
 
 // S1, S2 and S3.
 fn counts_fit(count: u8, room: u8, slots: u8) -> bool

@@ -56,26 +56,26 @@ impl Core {
         ensures { λ r. ⌜ r ≡ sound self ⌝ }
     {
         let config = self.config;
-        if config.legal() {
-            let durations = config.durations;
-            let owners = config.owners;
-            let vms = self.vms;
-            let standings = vms::standings(vms);
-            let clock = self.clock;
-            let queue = self.queue;
-            let running = self.running;
-            let rest = vms::rest_fresh(vms, config.count);
-            let queued = sound::queue_sound(queue, config.room, &standings);
-            let begun = sound::start_sound(clock, running == Answer::NOBODY, queue.len, &standings);
-            let duration = table::duration_at(clock.slot, &durations);
-            let placed = sound::clock_sound(clock, config.slots, duration);
-            let owner = table::owner_at(clock.slot, &owners);
-            let runs = sound::runner_sound(running, owner, sound::is_ready(&standings, running));
-            let known = sound::numbers_known(clock, &standings);
-            sound::all(rest, queued, begun, placed, runs, known)
-        } else {
-            false
-        }
+        let entries = config.entries;
+        let handlers = config.handlers;
+        let owners = config.owners;
+        let durations = config.durations;
+        let vms = self.vms;
+        let clock = self.clock;
+        let queue = self.queue;
+        sound::parts_sound(
+            vms,
+            clock,
+            self.running,
+            queue,
+            config.count,
+            config.room,
+            config.slots,
+            &entries,
+            &handlers,
+            &owners,
+            &durations,
+        )
     }
 
     // A refusal: the state as it was (R2, R3).

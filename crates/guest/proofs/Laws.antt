@@ -1,14 +1,15 @@
 -- The machine's operations on bits, in the terms of the definitions.
-use Prim.Native.Nat.{suc, zero, ℕ, _%_, _*_, _+_, _-_, _/_, _<_, _^_, _≤_}
+use Prim.Native.Nat.{suc, zero, ℕ, _%_, _*_, _+_, _-_, _/_, _<_, _^_}
 use borrow.Author.Tests.{eqb-false, eqb-true}
 use lib.Bits.{and-high, and-mod, and-shr, bitAnd, bitOr, or-add-and}
 use lib.Dec.{eqb}
-use lib.Pow.{pow-add, pow-mono, shl-exact}
+use lib.Pow.{pow-add, shl-exact}
 use mathlib.Core.Bool.{Bool, false, true}
 use mathlib.Core.Path.{ap, refl, sym, _∙_, _≡_}
 use native.Mathlib.Decide.{decLt}
-use native.Mathlib.Nat.{div-eq-of-lt, div-eq-of-lt-le, lt-of-lt-of-le, mod-lt, pow-suc, zero-div}
+use native.Mathlib.Nat.{mod-lt}
 use native.Mathlib.Omega.{arith}
+use Rattle.basis.proofs.Bits.{bit-zero}
 use Rattle.basis.specs.Choice.{both, pick}
 use Rattle.guest.specs.Bits.{bit, clearBit, highest, setBit}
 use Rattle.guest.specs.Deliver.{deliver, due, interrupt, quiet}
@@ -113,21 +114,6 @@ module _ (p : ℕ → Bool) where
                   | no i ↦ (let q : k ≡ n = omega arith in rw q f)
                 ],
           )
-
--- ---- the bits of a number of known size
-
-pub bit-top : (j m : ℕ) → 2 ^ j ≤ m → m < 2 ^ suc j → bit j m ≡ true
-bit-top j m a b =
-    let e : m / 2 ^ j ≡ 1 = div-eq-of-lt-le (2 ^ j) (omega (arith, a)) (omega (arith, b, pow-suc 2 j)) in
-    rw e
-
-pub bit-over : (j k m : ℕ) → m < 2 ^ suc j → j < k → bit k m ≡ false
-bit-over j k m a b =
-    let e : m / 2 ^ k ≡ 0 = div-eq-of-lt (lt-of-lt-of-le a (pow-mono b)) in
-    rw e
-
-bit-zero : (k : ℕ) → bit k 0 ≡ false
-bit-zero k = rw (zero-div (2 ^ k))
 
 -- ---- the reader's theorems about what is due
 

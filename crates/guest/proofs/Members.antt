@@ -1,50 +1,16 @@
--- What it is to be in a set of pseudo-interrupts: to join two, to set one and to clear one touch the bits that they name, and no other.
-use Prim.Native.Nat.{suc, zero, ℕ, _%_, _*_, _+_, _-_, _/_, _<_, _^_, _≤_}
+-- What it is to be in a set of pseudo-interrupts: to set one and to clear one touch the bits that they name, and no other.
+use Prim.Native.Nat.{ℕ, _%_, _+_, _-_, _/_, _^_, _≤_}
 use borrow.Author.Tests.{eqb-true}
-use lib.Bits.{and-le-l, bitOr, or-mod, or-shr}
-use lib.Dec.{eqb}
-use lib.Pow.{pow-add, pow-lt, pow-pos, shl-shr}
+use lib.Bits.{and-le-l}
+use lib.Pow.{pow-pos}
 use mathlib.Core.Bool.{Bool, false, true}
 use mathlib.Core.Path.{ap, refl, sym, _∙_, _≡_}
-use native.Mathlib.Decide.{decLt}
-use native.Mathlib.Nat.{div-eq-sub-div, mod-lt, pow-suc}
+use native.Mathlib.Nat.{div-eq-sub-div}
 use native.Mathlib.Omega.{arith}
+use Rattle.basis.proofs.Bits.{bit-or, power-other, power-same}
 use Rattle.basis.specs.Choice.{either, pick}
-use Rattle.guest.proofs.Laws.{and-in, bit-over, bit-top, or-sets}
+use Rattle.guest.proofs.Laws.{and-in, or-sets}
 use Rattle.guest.specs.Bits.{bit, clearBit, setBit}
-
-digit-or : (x y : ℕ) → x < 2 → y < 2 → eqb (bitOr x y) 1 ≡ either (eqb x 1) (eqb y 1)
-digit-or zero zero p q = refl
-digit-or zero (suc zero) p q = refl
-digit-or zero (suc (suc y)) p q = absurd (omega arith)
-digit-or (suc zero) zero p q = refl
-digit-or (suc zero) (suc zero) p q = refl
-digit-or (suc zero) (suc (suc y)) p q = absurd (omega arith)
-digit-or (suc (suc x)) y p q = absurd (omega arith)
-
--- D8: what is in either is in the joined one, and nothing else is
-pub bit-or : (n a b : ℕ) → bit n (bitOr a b) ≡ either (bit n a) (bit n b)
-bit-or n a b =
-    ap (λ x. eqb (x % 2) 1) (or-shr a b n)
-    ∙ ap (λ x. eqb x 1) (or-mod (a / 2 ^ n) (b / 2 ^ n) 1)
-    ∙ digit-or (a / 2 ^ n % 2) (b / 2 ^ n % 2) (mod-lt (a / 2 ^ n) (omega arith)) (mod-lt (b / 2 ^ n) (omega arith))
-
-power-low : (d k : ℕ) → bit k (2 ^ (suc d + k)) ≡ false
-power-low d k =
-    let e : 2 ^ (suc d + k) / 2 ^ k ≡ 2 ^ d * 2 = ap (λ x. x / 2 ^ k) (pow-add 2 (suc d) k) ∙ shl-shr (2 ^ suc d) k ∙ pow-suc 2 d in
-    let z : 2 ^ d * 2 % 2 ≡ 0 = omega arith in
-    rw (e, z)
-
--- a power has its own number in it alone
-power-same : (n : ℕ) → bit n (2 ^ n) ≡ true
-power-same n = bit-top n (2 ^ n) (omega arith) (pow-lt (omega arith))
-
-power-other : (k n : ℕ) → (k ≡ n → ⊥) → bit k (2 ^ n) ≡ false
-power-other k n h =
-    elim (decLt n k) [
-      | yes l ↦ bit-over n k (2 ^ n) (pow-lt (omega arith)) l
-      | no l ↦ (let e : n ≡ suc (n - k - 1) + k = omega arith in ap (λ x. bit k (2 ^ x)) e ∙ power-low (n - k - 1) k)
-    ]
 
 either-false : (b : Bool) → either b false ≡ b
 either-false true = refl

@@ -6,7 +6,7 @@ ghost use Prim.Native.Nat.{_<_};
 ghost use mathlib.Core.Path.{_≡_};
 ghost use Rattle.basis.specs.Choice.{pick};
 ghost use Rattle.guest.specs.Deliver.{backFrom, deliver, enter, interrupt, quiet, shown};
-ghost use Rattle.guest.specs.Record.{blank, endedAs, fresh, isBlank, isFresh, isReady, older, pend, savedAt, standingKnown, startedAt};
+ghost use Rattle.guest.specs.Record.{blank, endedAs, fresh, isFresh, isReady, older, pend, savedAt, standingKnown, startedAt};
 ghost use Rattle.guest.specs.Write.{isField, stored, write};
 
 // A pseudo-interrupt's number, or none.
@@ -103,14 +103,14 @@ impl Vm {
         self.standing <= Vm::LAST
     }
 
-    // W2, of one record. The tests are joined without a branch between them.
+    // W2, of one record: its numbers joined as bits, in the reverse of the definition's order.
     pub fn is_fresh(self) -> bool
         ensures { λ r. ⌜ r ≡ isFresh self ⌝ }
     {
         let s = self.status;
-        let counts = both(self.age == 0, self.ran == 0);
-        let fields = both(is_blank(s), counts);
-        both(self.standing == Vm::NONE, both(self.address == 0, fields))
+        let low = self.ran | self.age | s.running | s.ontick | s.restore | s.previous | s.reason;
+        let fields = low | s.resume | s.pending | s.enabled | s.left | s.since;
+        fields | self.address | self.standing as u32 == 0
     }
 
     // D3, D24.
@@ -291,28 +291,6 @@ fn blank() -> Status
         ontick: 0,
         running: 0,
     }
-}
-
-fn is_blank(s: Status) -> bool
-    ensures { λ r. ⌜ r ≡ isBlank s ⌝ }
-{
-    let five = both(
-        s.reason == 0,
-        both(
-            s.previous == 0,
-            both(s.restore == 0, both(s.ontick == 0, s.running == 0)),
-        ),
-    );
-    both(
-        s.since == 0,
-        both(
-            s.left == 0,
-            both(
-                s.enabled == 0,
-                both(s.pending == 0, both(s.resume == 0, five)),
-            ),
-        ),
-    )
 }
 
 fn choice(on: bool, x: u32, y: u32) -> u32

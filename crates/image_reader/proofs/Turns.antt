@@ -135,6 +135,9 @@ module _ {s : List ℕ} {from : ℕ} {vms c : Config} {at n : ℕ} (i : Slots s 
       let w = slot-passed (c .count) n (drop at s) (sym (rw (part-is s at) at h) ∙ k) in
       (omega (arith, w .1, length-drop at s, i .inside), w .2)
 
+  pub turn-room : {f : ℕ} → f ≡ slotFault (c .count) n (part s at) → f ≡ 0 → c .slots < 64
+  turn-room h k = omega (arith, turn-in h k .1, i .counted)
+
   pub turn-more : {b f o t : ℕ} {d : Config} → b ≡ getD (part s at) 0 0 → (b ≡ 4 → ⊥) → f ≡ slotFault (c .count) n (part s at) → f ≡ 0
       → o ≡ getD (part s at) 1 0 → t ≡ half (part s at) 2 → d ≡ withSlot c o t → Slots s from vms d (at + 4) (n + 1)
   turn-more {b} {f} {o} {t} {d} e g h k y z w =

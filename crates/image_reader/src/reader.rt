@@ -7,7 +7,7 @@ use config::Config;
 ghost use Prim.Native.Nat.{_+_, _<_, _^_, _≤_};
 ghost use lib.ListN.{drop, length};
 ghost use mathlib.Core.Path.{_≡_};
-ghost use Rattle.image_reader.specs.Reader.{begun, readEnd, readSlots, readVms, refused, withSlot, withVm};
+ghost use Rattle.image_reader.specs.Reader.{begun, readEnd, readSlots, readVms, refused};
 
 // The configuration that a core record begins.
 pub fn begun(count: u8, room: u8) -> Config
@@ -50,22 +50,15 @@ pub fn read_vms(s: &[u8], core: Config) -> Reading
         if fault != 0 {
             return refused(fault, at);
         }
-        c = with_vm(c, k, numbers::word(rest, 1), numbers::word(rest, 5));
+        let entry = numbers::word(rest, 1);
+        let handler = numbers::word(rest, 5);
+        let i = k as usize;
+        c.entries[i] = entry;
+        c.handlers[i] = handler;
         at = at + 9;
         k = k + 1;
     }
     read_slots(s, at, c)
-}
-
-fn with_vm(c: Config, k: u8, entry: u32, handler: u32) -> Config
-    requires { ⌜ k < 8 ⌝ }
-    ensures { λ r. ⌜ r ≡ withVm c k entry handler ⌝ }
-{
-    let i = k as usize;
-    let mut next = c;
-    next.entries[i] = entry;
-    next.handlers[i] = handler;
-    next
 }
 
 // The slot records from `from` on, and the end record.
@@ -85,23 +78,16 @@ fn read_slots(s: &[u8], from: usize, vms: Config) -> Reading
         if fault != 0 {
             return refused(fault, at);
         }
-        c = with_slot(c, places::byte_at(rest, 1), numbers::half(rest, 2));
+        let owner = places::byte_at(rest, 1);
+        let ticks = numbers::half(rest, 2);
+        let i = c.slots as usize;
+        c.owners[i] = owner;
+        c.durations[i] = ticks;
+        c.slots = c.slots + 1;
         at = at + 4;
         n = n + 1;
     }
     refused(26, at)
-}
-
-fn with_slot(c: Config, owner: u8, ticks: u16) -> Config
-    requires { ⌜ c .slots < 64 ⌝ }
-    ensures { λ r. ⌜ r ≡ withSlot c owner ticks ⌝ }
-{
-    let i = c.slots as usize;
-    let mut next = c;
-    next.owners[i] = owner;
-    next.durations[i] = ticks;
-    next.slots = c.slots + 1;
-    next
 }
 
 // The end record, with all that the image has still.

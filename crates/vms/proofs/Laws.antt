@@ -4,14 +4,14 @@ use borrow.Author.Tests.{le-ltb, lt-ltb, ltb-false, ltb-true}
 use lib.Dec.{ltb}
 use lib.ListN.{List·getD-eq-default, getD, length, length-set, set}
 use lib.Seq.{getD-set-other, getD-set-same, set-getD, set-out}
-use mathlib.Core.Bool.{Bool, false, true}
+use mathlib.Core.Bool.{Bool, false, not, true}
 use mathlib.Core.List.{List, [], _∷_}
 use mathlib.Core.Logic.{_≢_}
 use mathlib.Core.Path.{ap, refl, sym, _∙_, _≡_}
 use native.Mathlib.Decide.{decLt, ℕ-discrete}
 use native.Mathlib.Nat.{add-suc, add-zero, mod-eq-of-lt}
 use native.Mathlib.Omega.{arith}
-use Rattle.basis.proofs.Laws.{upTo-more}
+use Rattle.basis.proofs.Laws.{false-true, upTo-more}
 use Rattle.basis.specs.Choice.{pick}
 use Rattle.basis.specs.Count.{upTo}
 use Rattle.basis.specs.Nobody.{nobody}
@@ -175,3 +175,12 @@ turn-law l w handlers running at count owner head left who k address number s b 
     let wl : length w ≡ 8 = ap length p ∙ each-length (λ k v. older v) (set l (running % 8) s) count ∙ long in
     let q : who ≡ runnerOf owner head w = runner-law w owner head who b wl hb hwho in
     entered-law w handlers who left address number d wl hd ha hn ∙ ap (λ (x : ℕ). turnBy x left handlers w) q ∙ ap (λ (x : List Vm). turnBy (runnerOf owner head x) left handlers x) pp
+
+-- a test of the code that was turned round
+pub test-failed : (b p : Bool) → b ≡ p → not b ≡ true → p ≡ false
+test-failed true p e f = false-true f
+test-failed false p e f = sym e
+
+pub test-passed : (b p : Bool) → b ≡ p → not b ≡ false → p ≡ true
+test-passed true p e f = sym e
+test-passed false p e f = false-true (sym f)

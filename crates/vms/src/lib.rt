@@ -6,10 +6,10 @@ ghost use Prim.Native.Nat.{min};
 ghost use lib.Dec.{ltb};
 ghost use lib.ListN.{getD, set};
 ghost use mathlib.Core.Path.{_≡_};
-ghost use Rattle.basis.specs.Choice.{pick};
+ghost use Rattle.basis.specs.Choice.{either, pick};
 ghost use Rattle.basis.specs.Nobody.{nobody};
 ghost use Rattle.config.specs.Sizes.{isSpare};
-ghost use Rattle.guest.specs.Record.{fresh};
+ghost use Rattle.guest.specs.Record.{fresh, isFresh};
 ghost use Rattle.vms.specs.Records.{restFresh, standingsOf, startedAll};
 ghost use Rattle.vms.specs.Tick.{numberOf, turn};
 
@@ -58,25 +58,41 @@ pub fn standings(vms: [Vm; 8]) -> [u8; 8]
     ]
 }
 
-// W2: whether the records past the VM count are as in a fresh state.
+// W2: whether the records past the VM count are as in a fresh state; one test after the other, since none need be made of those in use.
 pub fn rest_fresh(vms: [Vm; 8], count: u8) -> bool
     ensures { λ r. ⌜ r ≡ restFresh count vms ⌝ }
 {
-    let n = count as usize;
-    let mut k: usize = 0;
-    while k < 8 {
-        let v = vms[k];
-        if k < n {
-            k = k + 1;
-        } else {
-            if v.is_fresh() {
-                k = k + 1;
-            } else {
-                return false;
-            }
-        }
+    if !used_or_fresh(7, count, vms[7]) {
+        return false;
+    }
+    if !used_or_fresh(6, count, vms[6]) {
+        return false;
+    }
+    if !used_or_fresh(5, count, vms[5]) {
+        return false;
+    }
+    if !used_or_fresh(4, count, vms[4]) {
+        return false;
+    }
+    if !used_or_fresh(3, count, vms[3]) {
+        return false;
+    }
+    if !used_or_fresh(2, count, vms[2]) {
+        return false;
+    }
+    if !used_or_fresh(1, count, vms[1]) {
+        return false;
+    }
+    if !used_or_fresh(0, count, vms[0]) {
+        return false;
     }
     true
+}
+
+fn used_or_fresh(k: u8, count: u8, vm: Vm) -> bool
+    ensures { λ r. ⌜ r ≡ either (ltb k count) (isFresh vm) ⌝ }
+{
+    if k < count { true } else { vm.is_fresh() }
 }
 
 // D1: each VM ready at its entry.

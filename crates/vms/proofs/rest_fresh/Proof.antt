@@ -1,79 +1,123 @@
--- The records below `k` that are past the count are fresh.
-use Prim.Native.Nat.{_-_, _≤_}
+-- The first record that fails, or none.
 use borrow.Author.Needs.{needs}
-use borrow.Author.Tests.{le-ltb, lt-ltb}
-use lib.Dec.{ltb}
-use lib.ListN.{getD}
-use mathlib.Core.Bool.{true}
-use mathlib.Core.Path.{_≡_}
 use native.Mathlib.Omega.{arith}
-use Rattle.basis.proofs.Laws.{every-end, every-miss, every-more, turns}
-use Rattle.basis.specs.Choice.{either}
+use Rattle.basis.proofs.Laws.{every-miss}
 use Rattle.basis.specs.Count.{every}
-use Rattle.guest.specs.Record.{fresh, isFresh}
+use Rattle.vms.proofs.Laws.{test-failed, test-passed}
 use Rattle.vms.proofs.rest_fresh.Statement.{statement}
 use Rattle.vms.proofs.rest_fresh.Tie as tie
 use Rattle.vms.specs.Records.{restFresh}
 
-abbrev Inv-loop : tie.InvT-loop
-Inv-loop count vms n k₀ k = (k ≤ 8) × (true ≡ every (λ j. either (ltb j count) (isFresh (getD vms j fresh))) k)
+array-copy-out-used-or-fresh : tie.Need-array-copy-out-used-or-fresh
+array-copy-out-used-or-fresh c = search needs
 
-abbrev μ-loop : tie.MeasureT-loop
-μ-loop count vms n k₀ k = 8 - k
+used-or-fresh-requires : tie.Need-used-or-fresh-requires
+used-or-fresh-requires c κs = search needs
 
-loop-holds : tie.Need-loop-holds Inv-loop μ-loop
-loop-holds c = search turns
-
-mul-v : tie.Need-mul-v Inv-loop μ-loop
-mul-v c = search needs
-
-array-copy-out-v : tie.Need-array-copy-out-v Inv-loop μ-loop
-array-copy-out-v c = search needs
-
-add-k : tie.Need-add-k Inv-loop μ-loop
-add-k c = search needs
-
-loop-less : tie.Need-loop-less Inv-loop μ-loop
-loop-less c = search needs
-
-loop-again : tie.Need-loop-again Inv-loop μ-loop
-loop-again c = (omega arith, every-more _ _ _ _ (c .before .before .before .loop .inv .1) (rw (lt-ltb _ _ (c .if1 .taken))))
-
-is-fresh-requires : tie.Need-is-fresh-requires Inv-loop μ-loop
-is-fresh-requires c κs = search needs
-
-add-k-2 : tie.Need-add-k-2 Inv-loop μ-loop
-add-k-2 c = search needs
-
-loop-less-2 : tie.Need-loop-less-2 Inv-loop μ-loop
-loop-less-2 c = search needs
-
-loop-again-2 : tie.Need-loop-again-2 Inv-loop μ-loop
-loop-again-2 c = (omega arith, every-more _ _ _ _ (c .before .before .before .before .before .loop .inv .1) (rw (le-ltb _ _ (c .before .before .if1 .left), ← c .before .is-fresh .ensures, c .if2 .taken)))
-
-returns : tie.Need-returns Inv-loop μ-loop
+returns : tie.Need-returns
 unfolding restFresh
-returns c = every-miss _ _ (c .before .before .before .before .before .loop .k) (omega arith) (rw (le-ltb _ _ (c .before .before .if1 .left), ← c .before .is-fresh .ensures, c .if2 .left))
+returns c = every-miss _ _ 7 (omega arith) (test-failed _ _ (c .before .used-or-fresh .ensures) (c .if1 .taken))
 
-returns-2 : tie.Need-returns-2 Inv-loop μ-loop
+array-copy-out-used-or-fresh-2 : tie.Need-array-copy-out-used-or-fresh-2
+array-copy-out-used-or-fresh-2 c = search needs
+
+used-or-fresh-requires-2 : tie.Need-used-or-fresh-requires-2
+used-or-fresh-requires-2 c κs = search needs
+
+returns-2 : tie.Need-returns-2
 unfolding restFresh
-returns-2 c = every-end _ _ _ _ (c .before .loop .inv .1) (omega arith)
+returns-2 c = every-miss _ _ 6 (omega arith) (test-failed _ _ (c .before .used-or-fresh2 .ensures) (c .if2 .taken))
+
+array-copy-out-used-or-fresh-3 : tie.Need-array-copy-out-used-or-fresh-3
+array-copy-out-used-or-fresh-3 c = search needs
+
+used-or-fresh-requires-3 : tie.Need-used-or-fresh-requires-3
+used-or-fresh-requires-3 c κs = search needs
+
+returns-3 : tie.Need-returns-3
+unfolding restFresh
+returns-3 c = every-miss _ _ 5 (omega arith) (test-failed _ _ (c .before .used-or-fresh3 .ensures) (c .if3 .taken))
+
+array-copy-out-used-or-fresh-4 : tie.Need-array-copy-out-used-or-fresh-4
+array-copy-out-used-or-fresh-4 c = search needs
+
+used-or-fresh-requires-4 : tie.Need-used-or-fresh-requires-4
+used-or-fresh-requires-4 c κs = search needs
+
+returns-4 : tie.Need-returns-4
+unfolding restFresh
+returns-4 c = every-miss _ _ 4 (omega arith) (test-failed _ _ (c .before .used-or-fresh4 .ensures) (c .if4 .taken))
+
+array-copy-out-used-or-fresh-5 : tie.Need-array-copy-out-used-or-fresh-5
+array-copy-out-used-or-fresh-5 c = search needs
+
+used-or-fresh-requires-5 : tie.Need-used-or-fresh-requires-5
+used-or-fresh-requires-5 c κs = search needs
+
+returns-5 : tie.Need-returns-5
+unfolding restFresh
+returns-5 c = every-miss _ _ 3 (omega arith) (test-failed _ _ (c .before .used-or-fresh5 .ensures) (c .if5 .taken))
+
+array-copy-out-used-or-fresh-6 : tie.Need-array-copy-out-used-or-fresh-6
+array-copy-out-used-or-fresh-6 c = search needs
+
+used-or-fresh-requires-6 : tie.Need-used-or-fresh-requires-6
+used-or-fresh-requires-6 c κs = search needs
+
+returns-6 : tie.Need-returns-6
+unfolding restFresh
+returns-6 c = every-miss _ _ 2 (omega arith) (test-failed _ _ (c .before .used-or-fresh6 .ensures) (c .if6 .taken))
+
+array-copy-out-used-or-fresh-7 : tie.Need-array-copy-out-used-or-fresh-7
+array-copy-out-used-or-fresh-7 c = search needs
+
+used-or-fresh-requires-7 : tie.Need-used-or-fresh-requires-7
+used-or-fresh-requires-7 c κs = search needs
+
+returns-7 : tie.Need-returns-7
+unfolding restFresh
+returns-7 c = every-miss _ _ 1 (omega arith) (test-failed _ _ (c .before .used-or-fresh7 .ensures) (c .if7 .taken))
+
+array-copy-out-used-or-fresh-8 : tie.Need-array-copy-out-used-or-fresh-8
+array-copy-out-used-or-fresh-8 c = search needs
+
+used-or-fresh-requires-8 : tie.Need-used-or-fresh-requires-8
+used-or-fresh-requires-8 c κs = search needs
+
+returns-8 : tie.Need-returns-8
+unfolding restFresh
+returns-8 c = every-miss _ _ 0 (omega arith) (test-failed _ _ (c .before .used-or-fresh8 .ensures) (c .if8 .taken))
+
+returns-9 : tie.Need-returns-9
+unfolding restFresh every
+returns-9 c = rw (test-passed _ _ (c .before .before .before .before .before .before .before .before .before .before .before .before .before .before .before .before .before .before .before .before .before .before .used-or-fresh .ensures) (c .before .before .before .before .before .before .before .before .before .before .before .before .before .before .before .before .before .before .before .before .before .if1 .left), test-passed _ _ (c .before .before .before .before .before .before .before .before .before .before .before .before .before .before .before .before .before .before .before .used-or-fresh2 .ensures) (c .before .before .before .before .before .before .before .before .before .before .before .before .before .before .before .before .before .before .if2 .left), test-passed _ _ (c .before .before .before .before .before .before .before .before .before .before .before .before .before .before .before .before .used-or-fresh3 .ensures) (c .before .before .before .before .before .before .before .before .before .before .before .before .before .before .before .if3 .left), test-passed _ _ (c .before .before .before .before .before .before .before .before .before .before .before .before .before .used-or-fresh4 .ensures) (c .before .before .before .before .before .before .before .before .before .before .before .before .if4 .left), test-passed _ _ (c .before .before .before .before .before .before .before .before .before .before .used-or-fresh5 .ensures) (c .before .before .before .before .before .before .before .before .before .if5 .left), test-passed _ _ (c .before .before .before .before .before .before .before .used-or-fresh6 .ensures) (c .before .before .before .before .before .before .if6 .left), test-passed _ _ (c .before .before .before .before .used-or-fresh7 .ensures) (c .before .before .before .if7 .left), test-passed _ _ (c .before .used-or-fresh8 .ensures) (c .if8 .left))
 
 pub rest-fresh-spec : {M : Type 1} → statement M
 rest-fresh-spec =
     tie.close
     (tie.spec
-    Inv-loop
-    μ-loop
-    loop-holds
-    mul-v
-    array-copy-out-v
-    add-k
-    loop-less
-    loop-again
-    is-fresh-requires
-    add-k-2
-    loop-less-2
-    loop-again-2
+    array-copy-out-used-or-fresh
+    used-or-fresh-requires
     returns
-    returns-2)
+    array-copy-out-used-or-fresh-2
+    used-or-fresh-requires-2
+    returns-2
+    array-copy-out-used-or-fresh-3
+    used-or-fresh-requires-3
+    returns-3
+    array-copy-out-used-or-fresh-4
+    used-or-fresh-requires-4
+    returns-4
+    array-copy-out-used-or-fresh-5
+    used-or-fresh-requires-5
+    returns-5
+    array-copy-out-used-or-fresh-6
+    used-or-fresh-requires-6
+    returns-6
+    array-copy-out-used-or-fresh-7
+    used-or-fresh-requires-7
+    returns-7
+    array-copy-out-used-or-fresh-8
+    used-or-fresh-requires-8
+    returns-8
+    returns-9)

@@ -5,8 +5,8 @@ use Rattle.config.proofs.Config.serves_all.Statement.{statement}
 use Rattle.config.proofs.Config.serves_all.Tie as tie
 use Rattle.config.specs.Sizes.{hasSlot, vmsServed}
 
-vms-served-requires : tie.Need-vms-served-requires
-vms-served-requires c κs = search needs
+each-served-requires : tie.Need-each-served-requires
+each-served-requires c κs = search needs
 
 returns : tie.Need-returns
 unfolding vmsServed hasSlot
@@ -17,4 +17,4 @@ unfolding vmsServed hasSlot
 returns-2 c = search ways
 
 pub serves-all-spec : {M : Type 1} → statement M
-serves-all-spec = tie.close (tie.spec vms-served-requires returns returns-2)
+serves-all-spec = tie.close (tie.spec each-served-requires returns returns-2)

@@ -1,42 +1,49 @@
--- Each VM below `v` has a slot.
-use Prim.Native.Nat.{_-_, _≤_}
+-- The bits that are set are the numbers named below `k`.
+use Prim.Native.Nat.{ℕ, _%_, _-_, _≤_}
 use borrow.Author.Needs.{needs}
 use lib.Dec.{eqb}
 use lib.ListN.{getD}
-use mathlib.Core.Bool.{true}
-use mathlib.Core.Path.{sym, _∙_, _≡_}
+use lib.Pow.{pow-pos}
+use mathlib.Core.Path.{refl, _≡_}
 use native.Mathlib.Omega.{arith}
-use Rattle.basis.proofs.Laws.{every-end, every-miss, every-more, turns}
-use Rattle.basis.specs.Count.{every, some}
+use Rattle.basis.proofs.Bits.{bitAt}
+use Rattle.basis.specs.Count.{some}
+use Rattle.config.proofs.Walks.{seen-more, seen-none, served-law}
 use Rattle.config.proofs.places.vms_served.Statement.{statement}
 use Rattle.config.proofs.places.vms_served.Tie as tie
 
 abbrev Inv-loop : tie.InvT-loop
-Inv-loop count slots owners v₀ v = (v ≤ count) × (true ≡ every (λ w. some (λ k. eqb (getD owners k 0) w) slots) v)
+Inv-loop count slots owners n all seen₀ k₀ seen k = (k ≤ n) × ((v : ℕ) → bitAt v seen ≡ some (λ j. eqb (getD owners j 0 % 64) v) k)
 
 abbrev μ-loop : tie.MeasureT-loop
-μ-loop count slots owners v₀ v = count - v
+μ-loop count slots owners n all seen₀ k₀ seen k = n - k
+
+bit-requires : tie.Need-bit-requires Inv-loop μ-loop
+bit-requires c κs = search needs
+
+sub-all : tie.Need-sub-all Inv-loop μ-loop
+sub-all c = omega (arith, c .bit .ensures, pow-pos (c .before .args .count % 64))
 
 loop-holds : tie.Need-loop-holds Inv-loop μ-loop
-loop-holds c = search turns
+loop-holds c = (omega arith, λ v. seen-none _ v)
 
-has-slot-requires : tie.Need-has-slot-requires Inv-loop μ-loop
-has-slot-requires c κs = search needs
+element-copy-out-bit : tie.Need-element-copy-out-bit Inv-loop μ-loop
+element-copy-out-bit c = search needs
 
-add-v : tie.Need-add-v Inv-loop μ-loop
-add-v c = search needs
+bit-requires-2 : tie.Need-bit-requires-2 Inv-loop μ-loop
+bit-requires-2 c κs = search needs
+
+add-k : tie.Need-add-k Inv-loop μ-loop
+add-k c = search needs
 
 loop-less : tie.Need-loop-less Inv-loop μ-loop
 loop-less c = search needs
 
 loop-again : tie.Need-loop-again Inv-loop μ-loop
-loop-again c = (omega arith, every-more _ _ _ _ (c .before .before .before .loop .inv .1) (rw (← c .before .has-slot .ensures, c .if1 .taken)))
+loop-again c = (omega arith, λ v. seen-more (λ j. getD (c .before .before .before .before .before .args .owners .now) j 0 % 64) v (c .before .before .before .loop .k) (c .before .before .before .loop .seen) _ _ (c .before .before .before .loop .inv .1 v) (c .bit2 .ensures) refl)
 
 returns : tie.Need-returns Inv-loop μ-loop
-returns c = every-miss _ _ (c .before .before .before .loop .v) (omega arith) (sym (c .before .has-slot .ensures) ∙ c .if1 .left)
-
-returns-2 : tie.Need-returns-2 Inv-loop μ-loop
-returns-2 c = every-end _ _ _ _ (c .before .loop .inv .1) (omega arith)
+returns c = served-law (λ j. getD (c .before .before .before .args .owners .now) j 0 % 64) _ _ _ _ _ _ (c .before .loop .inv .1) (c .before .before .bit .ensures) refl (omega arith) (omega arith)
 
 pub vms-served-spec : {M : Type 1} → statement M
 vms-served-spec =
@@ -44,10 +51,12 @@ vms-served-spec =
     (tie.spec
     Inv-loop
     μ-loop
+    bit-requires
+    sub-all
     loop-holds
-    has-slot-requires
-    add-v
+    element-copy-out-bit
+    bit-requires-2
+    add-k
     loop-less
     loop-again
-    returns
-    returns-2)
+    returns)

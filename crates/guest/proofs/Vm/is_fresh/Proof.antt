@@ -1,35 +1,16 @@
--- The tests joined.
+-- The joined bits are zero where each number is.
 use borrow.Author.Needs.{needs}
+use Rattle.basis.proofs.Laws.{both-assoc, or-none}
 use Rattle.guest.proofs.Vm.is_fresh.Statement.{statement}
 use Rattle.guest.proofs.Vm.is_fresh.Tie as tie
-use Rattle.guest.specs.Record.{isFresh}
+use Rattle.guest.specs.Record.{isBlank, isFresh}
 
-both-requires : tie.Need-both-requires
-both-requires c κs = search needs
-
-is-blank-requires : tie.Need-is-blank-requires
-is-blank-requires c κs = search needs
-
-both-requires-2 : tie.Need-both-requires-2
-both-requires-2 c κs = search needs
-
-both-requires-3 : tie.Need-both-requires-3
-both-requires-3 c κs = search needs
-
-both-requires-4 : tie.Need-both-requires-4
-both-requires-4 c κs = search needs
+cast-result : tie.Need-cast-result
+cast-result c = search needs
 
 returns : tie.Need-returns
-unfolding isFresh
-returns c = rw (c .both4 .ensures, c .before .both3 .ensures, c .before .before .before .before .both2 .ensures, c .before .before .before .before .before .is-blank .ensures, c .before .before .before .before .before .before .both .ensures)
+unfolding isFresh isBlank
+returns c = simp (or-none, both-assoc)
 
 pub is-fresh-spec : {M : Type 1} → statement M
-is-fresh-spec =
-    tie.close
-    (tie.spec
-    both-requires
-    is-blank-requires
-    both-requires-2
-    both-requires-3
-    both-requires-4
-    returns)
+is-fresh-spec = tie.close (tie.spec cast-result returns)

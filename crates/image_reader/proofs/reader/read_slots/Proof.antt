@@ -1,8 +1,9 @@
 -- What is still to be read gives what the whole gives (`Slots`).
 use Prim.Native.Nat.{_-_}
 use borrow.Author.Needs.{needs}
+use mathlib.Core.Path.{refl}
 use native.Mathlib.Omega.{arith}
-use Rattle.image_reader.proofs.Turns.{Slots, slots-none, turn-bad, turn-end, turn-end-in, turn-in, turn-more}
+use Rattle.image_reader.proofs.Turns.{Slots, slots-none, turn-bad, turn-end, turn-end-in, turn-in, turn-more, turn-room}
 use Rattle.image_reader.proofs.reader.read_slots.Statement.{statement}
 use Rattle.image_reader.proofs.reader.read_slots.Tie as tie
 
@@ -48,11 +49,23 @@ byte-at-requires-2 c κs = search needs
 half-requires : tie.Need-half-requires Inv-loop μ-loop
 half-requires c κs = search needs
 
-with-slot-requires : tie.Need-with-slot-requires Inv-loop μ-loop
-with-slot-requires c κs = (let h = turn-in (c .before .before .before .before .before .before .before .before .loop .inv) (c .before .before .before .before .before .before .before .loop-test .taken) (c .before .before .before .slot-fault .ensures) (c .before .before .if2 .left) in omega (arith, h .1, c .before .before .before .before .before .before .before .before .loop .inv .counted))
+cast-i : tie.Need-cast-i Inv-loop μ-loop
+cast-i c = search needs
+
+element-write-c : tie.Need-element-write-c Inv-loop μ-loop
+element-write-c c = turn-room (c .before .before .before .before .before .before .before .before .loop .inv) (c .before .before .before .before .before .before .before .loop-test .taken) (c .before .before .before .slot-fault .ensures) (c .before .before .if2 .left)
+
+mul-c : tie.Need-mul-c Inv-loop μ-loop
+mul-c c = record { fits = omega (arith, turn-room (c .before .before .before .before .before .before .before .before .loop .inv) (c .before .before .before .before .before .before .before .loop-test .taken) (c .before .before .before .slot-fault .ensures) (c .before .before .if2 .left)) }
+
+element-write-c-2 : tie.Need-element-write-c-2 Inv-loop μ-loop
+element-write-c-2 c = turn-room (c .before .before .before .before .before .before .before .before .loop .inv) (c .before .before .before .before .before .before .before .loop-test .taken) (c .before .before .before .slot-fault .ensures) (c .before .before .if2 .left)
+
+add-c : tie.Need-add-c Inv-loop μ-loop
+add-c c = record { fits = omega (arith, turn-room (c .before .before .before .before .before .before .before .before .loop .inv) (c .before .before .before .before .before .before .before .loop-test .taken) (c .before .before .before .slot-fault .ensures) (c .before .before .if2 .left)) }
 
 add-at : tie.Need-add-at Inv-loop μ-loop
-add-at c = (let h = turn-in (c .before .before .before .before .before .before .before .before .before .loop .inv) (c .before .before .before .before .before .before .before .before .loop-test .taken) (c .before .before .before .before .slot-fault .ensures) (c .before .before .before .if2 .left) in omega (arith, h .0))
+add-at c = (let h = turn-in (c .before .before .before .before .before .before .before .before .loop .inv) (c .before .before .before .before .before .before .before .loop-test .taken) (c .before .before .before .slot-fault .ensures) (c .before .before .if2 .left) in omega (arith, h .0))
 
 add-n : tie.Need-add-n Inv-loop μ-loop
 add-n c = search needs
@@ -61,7 +74,7 @@ loop-less : tie.Need-loop-less Inv-loop μ-loop
 loop-less c = search needs
 
 loop-again : tie.Need-loop-again Inv-loop μ-loop
-loop-again c = turn-more (c .before .before .before .before .before .before .before .before .before .loop .inv) (c .before .before .before .before .before .before .before .before .loop-test .taken) (c .before .before .before .before .before .before .byte-at .ensures) (c .before .before .before .before .before .if1 .left) (c .before .before .before .before .slot-fault .ensures) (c .before .before .before .if2 .left) (c .before .before .byte-at2 .ensures) (c .before .half .ensures) (c .with-slot .ensures)
+loop-again c = turn-more (c .before .before .before .before .before .before .before .before .loop .inv) (c .before .before .before .before .before .before .before .loop-test .taken) (c .before .before .before .before .before .byte-at .ensures) (c .before .before .before .before .if1 .left) (c .before .before .before .slot-fault .ensures) (c .before .before .if2 .left) (c .before .byte-at2 .ensures) (c .half .ensures) refl
 
 refused-requires-2 : tie.Need-refused-requires-2 Inv-loop μ-loop
 refused-requires-2 c κs = search needs
@@ -87,7 +100,11 @@ read-slots-spec =
     returns-2
     byte-at-requires-2
     half-requires
-    with-slot-requires
+    cast-i
+    element-write-c
+    mul-c
+    element-write-c-2
+    add-c
     add-at
     add-n
     loop-less

@@ -1,6 +1,7 @@
 -- What is still to be read gives what the whole gives (`Vms`).
 use Prim.Native.Nat.{_-_}
 use borrow.Author.Needs.{needs}
+use mathlib.Core.Path.{refl}
 use native.Mathlib.Omega.{arith}
 use Rattle.image_reader.proofs.Turns.{Vms, vm-bad, vm-in, vm-more, vms-begin, vms-none}
 use Rattle.image_reader.proofs.reader.read_vms.Statement.{statement}
@@ -39,11 +40,23 @@ word-requires c κs = search needs
 word-requires-2 : tie.Need-word-requires-2 Inv-loop μ-loop
 word-requires-2 c κs = search needs
 
-with-vm-requires : tie.Need-with-vm-requires Inv-loop μ-loop
-with-vm-requires c κs = search needs
+cast-i : tie.Need-cast-i Inv-loop μ-loop
+cast-i c = search needs
+
+mul-c : tie.Need-mul-c Inv-loop μ-loop
+mul-c c = search needs
+
+element-write-c : tie.Need-element-write-c Inv-loop μ-loop
+element-write-c c = search needs
+
+mul-c-2 : tie.Need-mul-c-2 Inv-loop μ-loop
+mul-c-2 c = search needs
+
+element-write-c-2 : tie.Need-element-write-c-2 Inv-loop μ-loop
+element-write-c-2 c = search needs
 
 add-at : tie.Need-add-at Inv-loop μ-loop
-add-at c = omega (arith, vm-in (c .before .before .before .before .before .before .before .before .loop .inv) (c .before .before .before .before .before .before .if1 .taken) (c .before .before .before .before .vm-fault .ensures) (c .before .before .before .if2 .left))
+add-at c = omega (arith, vm-in (c .before .before .before .before .before .before .before .loop .inv) (c .before .before .before .before .before .if1 .taken) (c .before .before .before .vm-fault .ensures) (c .before .before .if2 .left))
 
 add-k : tie.Need-add-k Inv-loop μ-loop
 add-k c = search needs
@@ -52,7 +65,7 @@ loop-less : tie.Need-loop-less Inv-loop μ-loop
 loop-less c = search needs
 
 loop-again : tie.Need-loop-again Inv-loop μ-loop
-loop-again c = vm-more (c .before .before .before .before .before .before .before .before .loop .inv) (c .before .before .before .before .before .before .if1 .taken) (c .before .before .before .before .vm-fault .ensures) (c .before .before .before .if2 .left) (c .before .before .word .ensures) (c .before .word2 .ensures) (c .with-vm .ensures)
+loop-again c = vm-more (c .before .before .before .before .before .before .before .loop .inv) (c .before .before .before .before .before .if1 .taken) (c .before .before .before .vm-fault .ensures) (c .before .before .if2 .left) (c .before .word .ensures) (c .word2 .ensures) refl
 
 read-slots-requires : tie.Need-read-slots-requires Inv-loop μ-loop
 read-slots-requires c κs = (c .before .before .loop .inv .inside, c .before .before .loop .inv .counted .1)
@@ -75,7 +88,11 @@ read-vms-spec =
     returns
     word-requires
     word-requires-2
-    with-vm-requires
+    cast-i
+    mul-c
+    element-write-c
+    mul-c-2
+    element-write-c-2
     add-at
     add-k
     loop-less
