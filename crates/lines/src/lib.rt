@@ -10,3 +10,4 @@ pub use line::put_cut;
 pub use line::put_line;
 pub use line::put_refused;
 pub use line::put_two;
+pub use line::put_two_by;
