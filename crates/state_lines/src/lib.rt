@@ -1,4 +1,5 @@
-// The whole state as lines, behind that of the event that left it. The functions ask for room in the buffer, as those of `lines` do.
+// The whole state as lines, behind that of the event that left it.
+// The functions ask for room in the buffer and for the table of pairs, as those of `lines` do.
 use change::Answer;
 use change::Notice;
 use core::Core;

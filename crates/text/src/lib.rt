@@ -1,6 +1,7 @@
 // Numbers and words put into a lent byte buffer, for the programs that print runs (N3 to N7).
 // Each function puts its text from `at` on and answers the place behind it. They are building blocks
-// of other crates, not entry points: each requires room in the buffer for what it puts, and nothing else.
+// of other crates, not entry points: each requires room in the buffer for what it puts, and of a table that it is lent
+// that it is `table()`; nothing else.
 mod number;
 mod pair;
 
