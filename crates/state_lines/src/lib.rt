@@ -1,4 +1,5 @@
-// The whole state as lines, behind that of the event that left it. The functions ask for room in the buffer, as those of `lines` do.
+// The whole state as lines, behind that of the event that left it.
+// The functions ask for room in the buffer and for the table of pairs, as those of `lines` do.
 use change::Answer;
 use change::Notice;
 use core::Core;
@@ -10,49 +11,50 @@ ghost use Prim.Native.Nat.{min, _+_, _≤_};
 ghost use lib.ListN.{length};
 ghost use mathlib.Core.Path.{_≡_};
 ghost use Rattle.state_lines.specs.State.{clockText, entriesText, entryText, fieldsText, fiveText, noticeText, queueText, stateText, statesText, vmText, vmsText};
+ghost use Rattle.text.specs.Pairs.{pairs};
 ghost use Rattle.text.specs.Puts.{Puts};
 
 // The state if `states`, else nothing.
-pub fn put_states(b: &mut [u8], at: usize, states: bool, a: Answer, c: Core) -> usize
-    requires { ⌜ at + 1450 ≤ length (now b) ⌝ }
+pub fn put_states(b: &mut [u8], at: usize, states: bool, a: Answer, c: Core, t: &[u8; 712]) -> usize
+    requires { ⌜ (now t ≡ pairs) × (at + 1450 ≤ length (now b)) ⌝ }
     ensures { λ r. ⌜ Puts (statesText states (a .notice) c) (now (b .entry)) at (now (b .exit)) r × (r ≤ at + 1450) ⌝ }
 {
     if states {
         let told = a.notice;
-        return put_state(b, at, told, c);
+        return put_state(b, at, told, c, t);
     }
     at
 }
 
-fn put_state(b: &mut [u8], at: usize, told: Notice, c: Core) -> usize
-    requires { ⌜ at + 1450 ≤ length (now b) ⌝ }
+fn put_state(b: &mut [u8], at: usize, told: Notice, c: Core, t: &[u8; 712]) -> usize
+    requires { ⌜ (now t ≡ pairs) × (at + 1450 ≤ length (now b)) ⌝ }
     ensures { λ r. ⌜ Puts (stateText told c) (now (b .entry)) at (now (b .exit)) r × (r ≤ at + 1450) ⌝ }
 {
     let clock = c.clock;
     let queue = c.queue;
     let vms = c.vms;
-    let a1 = put_notice(b, at, told);
-    let a2 = put_clock(b, a1, clock, c.running);
+    let a1 = put_notice(b, at, told, t);
+    let a2 = put_clock(b, a1, clock, c.running, t);
     let a3 = put_queue(b, a2, queue);
-    put_vms(b, a3, vms)
+    put_vms(b, a3, vms, t)
 }
 
-fn put_notice(b: &mut [u8], at: usize, told: Notice) -> usize
-    requires { ⌜ at + 40 ≤ length (now b) ⌝ }
+fn put_notice(b: &mut [u8], at: usize, told: Notice, t: &[u8; 712]) -> usize
+    requires { ⌜ (now t ≡ pairs) × (at + 40 ≤ length (now b)) ⌝ }
     ensures { λ r. ⌜ Puts (noticeText told) (now (b .entry)) at (now (b .exit)) r × (r ≤ at + 40) ⌝ }
 {
     let a1 = text::put_word(b, at, b"notice ");
     let a2 = lines::put_two(b, a1, told.vm as u32, told.code as u32, 32);
-    text::put_number(b, a2, told.detail, 10)
+    text::put_number_by(b, a2, told.detail, 10, t)
 }
 
-fn put_clock(b: &mut [u8], at: usize, k: Clock, running: u8) -> usize
-    requires { ⌜ at + 60 ≤ length (now b) ⌝ }
+fn put_clock(b: &mut [u8], at: usize, k: Clock, running: u8, t: &[u8; 712]) -> usize
+    requires { ⌜ (now t ≡ pairs) × (at + 60 ≤ length (now b)) ⌝ }
     ensures { λ r. ⌜ Puts (clockText k running) (now (b .entry)) at (now (b .exit)) r × (r ≤ at + 60) ⌝ }
 {
     let a1 = text::put_word(b, at, b"core ");
     let a2 = lines::put_two(b, a1, k.started as u32, k.ticked as u32, 32);
-    let a3 = lines::put_two(b, a2, k.slot as u32, k.left as u32, 32);
+    let a3 = lines::put_two_by(b, a2, k.slot as u32, k.left as u32, 32, t);
     lines::put_choice(b, a3, running, 10)
 }
 
@@ -99,56 +101,61 @@ fn put_entry(b: &mut [u8], at: usize, v: u8) -> usize
     text::put_decimal(b, word, v as u32)
 }
 
-fn put_vms(b: &mut [u8], at: usize, vms: [Vm; 8]) -> usize
-    requires { ⌜ at + 1168 ≤ length (now b) ⌝ }
+fn put_vms(b: &mut [u8], at: usize, vms: [Vm; 8], t: &[u8; 712]) -> usize
+    requires { ⌜ (now t ≡ pairs) × (at + 1168 ≤ length (now b)) ⌝ }
     ensures { λ r. ⌜ Puts (vmsText vms) (now (b .entry)) at (now (b .exit)) r × (r ≤ at + 1168) ⌝ }
 {
     let mut to = at;
     let mut k: u32 = 0;
     while k < 8 {
         let vm = vms[k as usize];
-        to = put_vm(b, to, k, vm);
+        to = put_vm(b, to, k, vm, t);
         k = k + 1;
     }
     to
 }
 
-fn put_vm(b: &mut [u8], at: usize, k: u32, vm: Vm) -> usize
-    requires { ⌜ at + 146 ≤ length (now b) ⌝ }
+fn put_vm(b: &mut [u8], at: usize, k: u32, vm: Vm, t: &[u8; 712]) -> usize
+    requires { ⌜ (now t ≡ pairs) × (at + 146 ≤ length (now b)) ⌝ }
     ensures { λ r. ⌜ Puts (vmText k vm) (now (b .entry)) at (now (b .exit)) r × (r ≤ at + 146) ⌝ }
 {
     let status = vm.status;
     let a1 = text::put_word(b, at, b"vm ");
     let a2 = lines::put_two(b, a1, k, vm.standing as u32, 32);
-    let a3 = text::put_address(b, a2, vm.address, 32);
-    let a4 = put_fields(b, a3, status);
-    lines::put_two(b, a4, vm.age, vm.ran, 10)
+    let a3 = text::put_address(b, a2, vm.address, 32, t);
+    let a4 = put_fields(b, a3, status, t);
+    lines::put_two_by(b, a4, vm.age, vm.ran, 10, t)
 }
 
 // F1 to F10.
-fn put_fields(b: &mut [u8], at: usize, f: Status) -> usize
-    requires { ⌜ at + 90 ≤ length (now b) ⌝ }
+fn put_fields(b: &mut [u8], at: usize, f: Status, t: &[u8; 712]) -> usize
+    requires { ⌜ (now t ≡ pairs) × (at + 90 ≤ length (now b)) ⌝ }
     ensures { λ r. ⌜ Puts (fieldsText f) (now (b .entry)) at (now (b .exit)) r × (r ≤ at + 90) ⌝ }
 {
-    let half = put_five(b, at, f.since, f.left, f.enabled, f.pending, f.resume);
-    put_five(
-        b,
-        half,
-        f.reason,
-        f.previous,
-        f.restore,
-        f.ontick,
-        f.running,
-    )
+    let half = put_former(b, at, f, t);
+    put_latter(b, half, f, t)
 }
 
-fn put_five(b: &mut [u8], at: usize, v: u32, w: u32, x: u32, y: u32, z: u32) -> usize
-    requires { ⌜ at + 45 ≤ length (now b) ⌝ }
-    ensures { λ r. ⌜ Puts (fiveText v w x y z) (now (b .entry)) at (now (b .exit)) r × (r ≤ at + 45) ⌝ }
+// The former five fields; this and the next have one caller each, so that they become part of it.
+fn put_former(b: &mut [u8], at: usize, f: Status, t: &[u8; 712]) -> usize
+    requires { ⌜ (now t ≡ pairs) × (at + 45 ≤ length (now b)) ⌝ }
+    ensures { λ r. ⌜ Puts (fiveText (f .since) (f .left) (f .enabled) (f .pending) (f .resume)) (now (b .entry)) at (now (b .exit)) r × (r ≤ at + 45) ⌝ }
 {
-    let a1 = text::put_address(b, at, v, 32);
-    let a2 = text::put_address(b, a1, w, 32);
-    let a3 = text::put_address(b, a2, x, 32);
-    let a4 = text::put_address(b, a3, y, 32);
-    text::put_address(b, a4, z, 32)
+    let a1 = text::put_address(b, at, f.since, 32, t);
+    let a2 = text::put_address(b, a1, f.left, 32, t);
+    let a3 = text::put_address(b, a2, f.enabled, 32, t);
+    let a4 = text::put_address(b, a3, f.pending, 32, t);
+    text::put_address(b, a4, f.resume, 32, t)
+}
+
+// The latter five.
+fn put_latter(b: &mut [u8], at: usize, f: Status, t: &[u8; 712]) -> usize
+    requires { ⌜ (now t ≡ pairs) × (at + 45 ≤ length (now b)) ⌝ }
+    ensures { λ r. ⌜ Puts (fiveText (f .reason) (f .previous) (f .restore) (f .ontick) (f .running)) (now (b .entry)) at (now (b .exit)) r × (r ≤ at + 45) ⌝ }
+{
+    let a1 = text::put_address(b, at, f.reason, 32, t);
+    let a2 = text::put_address(b, a1, f.previous, 32, t);
+    let a3 = text::put_address(b, a2, f.restore, 32, t);
+    let a4 = text::put_address(b, a3, f.ontick, 32, t);
+    text::put_address(b, a4, f.running, 32, t)
 }

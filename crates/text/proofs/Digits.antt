@@ -1,10 +1,11 @@
 -- Laws of the digits of a number.
 use Prim.Native.Nat.{suc, zero, ℕ, _%_, _+_, _-_, _/_, _<_, _^_, _≤_}
-use borrow.Author.Tests.{ltb-false, ltb-true}
+use borrow.Author.Tests.{lt-ltb, ltb-false, ltb-true}
 use lib.Dec.{ltb}
 use lib.ListN.{length, length-append, set}
 use mathlib.Core.List.{List, [], _∷_}
 use mathlib.Core.Path.{ap, refl, sym, _∙_, _≡_}
+use native.Mathlib.Nat.{mod-eq-of-lt}
 use native.Mathlib.Omega.{arith}
 use Rattle.basis.proofs.Laws.{pick-case}
 use Rattle.basis.specs.Buffer.{putAll}
@@ -68,6 +69,13 @@ digits-put l m at base k n e = record { bytes = e; next = ap (λ (j : ℕ). at +
 pub decimal-put : (l m : List ℕ) (at n k : ℕ) → k ≡ width n → m ≡ putAll l at (digits 10 k n) → Puts (decimal n) l at m (at + k) × (at + k ≤ at + 10)
 unfolding decimal
 decimal-put l m at n k e f = (rw e (digits-put l m at 10 (width n) n (rw (← e) f)), omega (arith, width-most n))
+
+-- one digit is put
+pub one-put : (l : List ℕ) (at n : ℕ) → n < 10 → Puts (decimal n) l at (set l at (48 + n)) (at + 1) × (at + 1 ≤ at + 10)
+unfolding width digits putAll glyph
+one-put l at n h =
+    let m : n % 10 ≡ n = mod-eq-of-lt h in
+    decimal-put l (set l at (48 + n)) at n 1 (rw (lt-ltb n 10 h)) (rw (m, lt-ltb n 10 h))
 
 pub decimal-length : (n : ℕ) → length (decimal n) ≡ width n
 unfolding decimal

@@ -1,4 +1,5 @@
 pub mod Puts
 pub mod Digits
+pub mod Pairs
 pub mod Values
 pub mod Unique

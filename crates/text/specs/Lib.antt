@@ -1,2 +1,3 @@
 pub mod Digits
 pub mod Puts
+pub mod Pairs

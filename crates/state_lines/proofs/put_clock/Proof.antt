@@ -21,14 +21,14 @@ cast-put-two-2 c = search needs
 put-two-requires : tie.Need-put-two-requires
 put-two-requires c κs = search needs
 
-cast-put-two-3 : tie.Need-cast-put-two-3
-cast-put-two-3 c = search needs
+cast-put-two-by : tie.Need-cast-put-two-by
+cast-put-two-by c = search needs
 
-cast-put-two-4 : tie.Need-cast-put-two-4
-cast-put-two-4 c = search needs
+cast-put-two-by-2 : tie.Need-cast-put-two-by-2
+cast-put-two-by-2 c = search needs
 
-put-two-requires-2 : tie.Need-put-two-requires-2
-put-two-requires-2 c κs = search needs
+put-two-by-requires : tie.Need-put-two-by-requires
+put-two-by-requires c κs = search needs
 
 put-choice-requires : tie.Need-put-choice-requires
 put-choice-requires c κs = search needs
@@ -38,7 +38,7 @@ same-length c = search needs
 
 returns : tie.Need-returns
 unfolding clockText
-returns c = (puts-then (c .before .before .before .before .before .before .before .before .before .before .before .before .before .before .before .before .before .before .put-word .ensures .0) (puts-then (c .before .before .before .before .before .before .before .before .before .before .before .before .put-two .ensures .0) (puts-then (c .before .before .before .before .before .before .put-two2 .ensures .0) (c .before .before .put-choice .ensures .0))), omega (arith, c .before .before .before .before .before .before .before .before .before .before .before .before .before .before .before .before .before .before .put-word .ensures .1, c .before .before .before .before .before .before .before .before .before .before .before .before .put-two .ensures .1, c .before .before .before .before .before .before .put-two2 .ensures .1, c .before .before .put-choice .ensures .1))
+returns c = (puts-then (c .before .before .before .before .before .before .before .before .before .before .before .before .before .before .before .before .before .before .put-word .ensures .0) (puts-then (c .before .before .before .before .before .before .before .before .before .before .before .before .put-two .ensures .0) (puts-then (c .before .before .before .before .before .before .put-two-by .ensures .0) (c .before .before .put-choice .ensures .0))), omega (arith, c .before .before .before .before .before .before .before .before .before .before .before .before .before .before .before .before .before .before .put-word .ensures .1, c .before .before .before .before .before .before .before .before .before .before .before .before .put-two .ensures .1, c .before .before .before .before .before .before .put-two-by .ensures .1, c .before .before .put-choice .ensures .1))
 
 pub put-clock-spec : {M : Type 1} → statement M
 put-clock-spec =
@@ -49,9 +49,9 @@ put-clock-spec =
     cast-put-two
     cast-put-two-2
     put-two-requires
-    cast-put-two-3
-    cast-put-two-4
-    put-two-requires-2
+    cast-put-two-by
+    cast-put-two-by-2
+    put-two-by-requires
     put-choice-requires
     same-length
     returns)

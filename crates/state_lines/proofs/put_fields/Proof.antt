@@ -6,18 +6,18 @@ use Rattle.state_lines.proofs.put_fields.Tie as tie
 use Rattle.state_lines.specs.State.{fieldsText}
 use Rattle.text.proofs.Puts.{puts-then}
 
-put-five-requires : tie.Need-put-five-requires
-put-five-requires c κs = search needs
+put-former-requires : tie.Need-put-former-requires
+put-former-requires c κs = search needs
 
-put-five-requires-2 : tie.Need-put-five-requires-2
-put-five-requires-2 c κs = search needs
+put-latter-requires : tie.Need-put-latter-requires
+put-latter-requires c κs = search needs
 
 same-length : tie.Need-same-length
 same-length c = search needs
 
 returns : tie.Need-returns
 unfolding fieldsText
-returns c = (puts-then (c .before .before .before .before .before .before .put-five .ensures .0) (c .before .before .put-five2 .ensures .0), omega (arith, c .before .before .before .before .before .before .put-five .ensures .1, c .before .before .put-five2 .ensures .1))
+returns c = (puts-then (c .before .before .before .before .before .before .put-former .ensures .0) (c .before .before .put-latter .ensures .0), omega (arith, c .before .before .before .before .before .before .put-former .ensures .1, c .before .before .put-latter .ensures .1))
 
 pub put-fields-spec : {M : Type 1} → statement M
-put-fields-spec = tie.close (tie.spec put-five-requires put-five-requires-2 same-length returns)
+put-fields-spec = tie.close (tie.spec put-former-requires put-latter-requires same-length returns)

@@ -21,15 +21,15 @@ cast-put-two-2 c = search needs
 put-two-requires : tie.Need-put-two-requires
 put-two-requires c κs = search needs
 
-put-number-requires : tie.Need-put-number-requires
-put-number-requires c κs = search needs
+put-number-by-requires : tie.Need-put-number-by-requires
+put-number-by-requires c κs = search needs
 
 same-length : tie.Need-same-length
 same-length c = search needs
 
 returns : tie.Need-returns
 unfolding noticeText
-returns c = (puts-then (c .before .before .before .before .before .before .before .before .before .before .before .before .put-word .ensures .0) (puts-then (c .before .before .before .before .before .before .put-two .ensures .0) (c .before .before .put-number .ensures .0)), omega (arith, c .before .before .before .before .before .before .before .before .before .before .before .before .put-word .ensures .1, c .before .before .before .before .before .before .put-two .ensures .1, c .before .before .put-number .ensures .1))
+returns c = (puts-then (c .before .before .before .before .before .before .before .before .before .before .before .before .put-word .ensures .0) (puts-then (c .before .before .before .before .before .before .put-two .ensures .0) (c .before .before .put-number-by .ensures .0)), omega (arith, c .before .before .before .before .before .before .before .before .before .before .before .before .put-word .ensures .1, c .before .before .before .before .before .before .put-two .ensures .1, c .before .before .put-number-by .ensures .1))
 
 pub put-notice-spec : {M : Type 1} → statement M
 put-notice-spec =
@@ -40,6 +40,6 @@ put-notice-spec =
     cast-put-two
     cast-put-two-2
     put-two-requires
-    put-number-requires
+    put-number-by-requires
     same-length
     returns)

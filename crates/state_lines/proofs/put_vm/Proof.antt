@@ -24,15 +24,15 @@ put-address-requires c κs = search needs
 put-fields-requires : tie.Need-put-fields-requires
 put-fields-requires c κs = search needs
 
-put-two-requires-2 : tie.Need-put-two-requires-2
-put-two-requires-2 c κs = search needs
+put-two-by-requires : tie.Need-put-two-by-requires
+put-two-by-requires c κs = search needs
 
 same-length : tie.Need-same-length
 same-length c = search needs
 
 returns : tie.Need-returns
 unfolding vmText
-returns c = (puts-then (c .before .before .before .before .before .before .before .before .before .before .before .before .before .before .before .before .before .before .before .put-word .ensures .0) (puts-then (c .before .before .before .before .before .before .before .before .before .before .before .before .before .before .put-two .ensures .0) (puts-then (c .before .before .before .before .before .before .before .before .before .before .put-address .ensures .0) (puts-then (c .before .before .before .before .before .before .put-fields .ensures .0) (c .before .before .put-two2 .ensures .0)))), omega (arith, c .before .before .before .before .before .before .before .before .before .before .before .before .before .before .before .before .before .before .before .put-word .ensures .1, c .before .before .before .before .before .before .before .before .before .before .before .before .before .before .put-two .ensures .1, c .before .before .before .before .before .before .before .before .before .before .put-address .ensures .1, c .before .before .before .before .before .before .put-fields .ensures .1, c .before .before .put-two2 .ensures .1))
+returns c = (puts-then (c .before .before .before .before .before .before .before .before .before .before .before .before .before .before .before .before .before .before .before .put-word .ensures .0) (puts-then (c .before .before .before .before .before .before .before .before .before .before .before .before .before .before .put-two .ensures .0) (puts-then (c .before .before .before .before .before .before .before .before .before .before .put-address .ensures .0) (puts-then (c .before .before .before .before .before .before .put-fields .ensures .0) (c .before .before .put-two-by .ensures .0)))), omega (arith, c .before .before .before .before .before .before .before .before .before .before .before .before .before .before .before .before .before .before .before .put-word .ensures .1, c .before .before .before .before .before .before .before .before .before .before .before .before .before .before .put-two .ensures .1, c .before .before .before .before .before .before .before .before .before .before .put-address .ensures .1, c .before .before .before .before .before .before .put-fields .ensures .1, c .before .before .put-two-by .ensures .1))
 
 pub put-vm-spec : {M : Type 1} → statement M
 put-vm-spec =
@@ -44,6 +44,6 @@ put-vm-spec =
     put-two-requires
     put-address-requires
     put-fields-requires
-    put-two-requires-2
+    put-two-by-requires
     same-length
     returns)

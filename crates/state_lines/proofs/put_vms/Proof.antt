@@ -13,10 +13,10 @@ use Rattle.state_lines.specs.State.{vmText, vmsText}
 use Rattle.text.specs.Puts.{Puts}
 
 abbrev Inv-loop : tie.InvT-loop
-Inv-loop b₀ at vms to₀ k₀ b to k = (k ≤ 8) × (to ≤ at + k * 146) × (length b ≡ length b₀) × Puts (joined (λ j. vmText j (getD vms j fresh)) k) b₀ at b to
+Inv-loop b₀ at t vms to₀ k₀ b to k = (k ≤ 8) × (to ≤ at + k * 146) × (length b ≡ length b₀) × Puts (joined (λ j. vmText j (getD vms j fresh)) k) b₀ at b to
 
 abbrev μ-loop : tie.MeasureT-loop
-μ-loop b₀ at vms to₀ k₀ b to k = 8 - k
+μ-loop b₀ at t vms to₀ k₀ b to k = 8 - k
 
 loop-holds : tie.Need-loop-holds Inv-loop μ-loop
 loop-holds c = (omega arith, omega arith, refl, joined-none _)
@@ -31,7 +31,7 @@ array-copy-out-vm : tie.Need-array-copy-out-vm Inv-loop μ-loop
 array-copy-out-vm c = search needs
 
 put-vm-requires : tie.Need-put-vm-requires Inv-loop μ-loop
-put-vm-requires c κs = omega (arith, c .before .before .before .loop .inv .1, c .before .before .before .loop .inv .2)
+put-vm-requires c κs = (c .before .before .before .before .before .pre .0, omega (arith, c .before .before .before .loop .inv .1, c .before .before .before .loop .inv .2))
 
 add-k : tie.Need-add-k Inv-loop μ-loop
 add-k c = search needs

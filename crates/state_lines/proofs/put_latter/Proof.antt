@@ -1,8 +1,8 @@
 -- Five addresses.
 use borrow.Author.Needs.{needs}
 use native.Mathlib.Omega.{arith}
-use Rattle.state_lines.proofs.put_five.Statement.{statement}
-use Rattle.state_lines.proofs.put_five.Tie as tie
+use Rattle.state_lines.proofs.put_latter.Statement.{statement}
+use Rattle.state_lines.proofs.put_latter.Tie as tie
 use Rattle.state_lines.specs.State.{fiveText}
 use Rattle.text.proofs.Puts.{puts-then}
 
@@ -28,8 +28,8 @@ returns : tie.Need-returns
 unfolding fiveText
 returns c = (puts-then (c .before .before .before .before .before .before .before .before .before .before .before .before .before .before .before .before .before .before .put-address .ensures .0) (puts-then (c .before .before .before .before .before .before .before .before .before .before .before .before .before .before .put-address2 .ensures .0) (puts-then (c .before .before .before .before .before .before .before .before .before .before .put-address3 .ensures .0) (puts-then (c .before .before .before .before .before .before .put-address4 .ensures .0) (c .before .before .put-address5 .ensures .0)))), omega (arith, c .before .before .before .before .before .before .before .before .before .before .before .before .before .before .before .before .before .before .put-address .ensures .1, c .before .before .before .before .before .before .before .before .before .before .before .before .before .before .put-address2 .ensures .1, c .before .before .before .before .before .before .before .before .before .before .put-address3 .ensures .1, c .before .before .before .before .before .before .put-address4 .ensures .1, c .before .before .put-address5 .ensures .1))
 
-pub put-five-spec : {M : Type 1} → statement M
-put-five-spec =
+pub put-latter-spec : {M : Type 1} → statement M
+put-latter-spec =
     tie.close
     (tie.spec
     put-address-requires
