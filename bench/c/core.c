@@ -3,28 +3,25 @@
 
 #include <string.h>
 
-/* Whether n bytes are all zero. */
+/* Whether n bytes, at most those of all durations, are zero. */
 static bool zeros(const void *from, size_t n) {
-    const uint8_t *b = from;
-    uint8_t all = 0;
-    for (size_t k = 0; k < n; k++) all |= b[k];
-    return all == 0;
+    static const uint8_t none[2 * CORE_SLOTS];
+    return memcmp(from, none, n) == 0;
 }
 
-/* S4 to S6, and the slots of S7. */
+/* S4 to S6, and the slots of S7. The first loop has no exit and no bits, so that the compiler does several slots at once. */
 static bool legal_slots(const core_config *c) {
-    uint32_t named = 0;
-    for (unsigned k = 0; k < c->slots; k++) {
-        unsigned owner = c->owners[k], ticks = c->durations[k];
-        if (owner == CORE_NONE) {
-            if (ticks != 1) return false;
-        } else {
-            if (owner >= c->count || ticks < 1 || ticks > 1000) return false;
-            named |= 1u << owner;
-        }
+    unsigned slots = c->slots;
+    uint16_t count = c->count, bad = 0;
+    for (unsigned k = 0; k < slots; k++) {
+        uint16_t owner = c->owners[k], ticks = c->durations[k];
+        bad |= (uint16_t)((owner == CORE_NONE ? ticks != 1 : owner >= count) | ((uint16_t)(ticks - 1) > 999));
     }
-    return named == (1u << c->count) - 1 && zeros(c->owners + c->slots, CORE_SLOTS - c->slots) &&
-           zeros(c->durations + c->slots, 2 * (CORE_SLOTS - c->slots));
+    if (bad) return false;
+    uint32_t named = 0;
+    for (unsigned k = 0; k < slots; k++) named |= 1u << c->owners[k] % 32;
+    return (named & 255) == (1u << count) - 1 && zeros(c->owners + slots, CORE_SLOTS - slots) &&
+           zeros(c->durations + slots, 2 * (CORE_SLOTS - slots));
 }
 
 bool legal(const core_config *c) {
@@ -175,17 +172,18 @@ static uint8_t runner(core_state *c) {
 /* D3 to D9. */
 static core_answer tick(core_state *c, uint32_t at) {
     if (c->running != CORE_NONE) c->vms[c->running].address = at;
-    for (unsigned i = 0; i < c->config.count; i++) c->vms[i].age++;
+    for (unsigned i = 0, count = c->config.count; i < count; i++) c->vms[i].age++;
     move_clock(c);
-    c->running = runner(c);
-    if (c->running == CORE_NONE) return answer(c, 0);
-    core_vm *v = &c->vms[c->running];
+    uint8_t vm = runner(c);
+    c->running = vm;
+    if (vm == CORE_NONE) return answer(c, 0);
+    core_vm *v = &c->vms[vm];
     v->ran++;
     v->status.since = v->age;
     v->status.left = c->clock.left;
     v->status.running = v->ran;
     v->status.pending |= v->status.ontick;
-    uint8_t delivered = deliver(v, c->config.handlers[c->running]);
+    uint8_t delivered = deliver(v, c->config.handlers[vm]);
     core_answer a = answer(c, 0);
     a.delivered = delivered;
     return a;
