@@ -1,0 +1,41 @@
+/* What the files of bench/c share: the core, images, logs and text in C, over the structs of the header for hosts. */
+#ifndef BENCH_CORE_H
+#define BENCH_CORE_H
+
+#include <stdbool.h>
+#include <stddef.h>
+#include <stdint.h>
+
+#include "gerstendocht.h"
+
+/* core.c */
+bool sound(const core_state *c);                             /* W1 to W12 */
+core_answer trusting(core_state *c, core_input e);           /* an event, in place, on a state that is sound */
+core_answer checked(core_state *c, core_input e);            /* the test, then the event */
+bool legal(const core_config *c);                            /* S1 to S7 */
+
+/* image.c */
+core_begun read_image(const uint8_t *b, size_t n);           /* I1 to I10 */
+uint8_t write_image(const core_config *c, uint8_t *b, size_t room, size_t *size); /* I11, I12: the refusal */
+
+/* log.c */
+enum { LONGEST_LOG = 60000 };                                /* S9 */
+enum { IMAGE_ROOM = 4096, LOG_ROOM = 65536 };                /* as much of a file as is read: more than decides */
+size_t decode(const uint8_t *b, size_t n, core_input *e);    /* the width of the record in front; 0: cut or unknown (L4) */
+int read_file(const char *name, uint8_t *b, size_t room);    /* the bytes read; -1: does not open */
+size_t read_all(int file, uint8_t *b, size_t room);
+void write_all(const uint8_t *b, size_t n);
+
+/* text.c */
+uint8_t *put_text(uint8_t *p, const char *s);
+uint8_t *put_number(uint8_t *p, uint32_t n);                 /* decimal */
+uint8_t *put_answer(uint8_t *p, uint32_t number, const core_answer *a);            /* N3, N4 */
+uint8_t *put_refused(uint8_t *p, uint8_t fault, size_t offset);                    /* N5 */
+uint8_t *put_state(uint8_t *p, const core_answer *a, const core_state *c);         /* N9 */
+uint8_t *put_image(uint8_t *p, const uint8_t *b, size_t n);                        /* N10 */
+
+/* replay.c */
+void print_run(const uint8_t *image, size_t m, const uint8_t *log, size_t n, bool states); /* N1 to N9 */
+void run_files(bool states);
+
+#endif

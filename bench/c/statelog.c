@@ -1,0 +1,7 @@
+/* statelog in C: for each event its line and the whole state (N9). */
+#include "core.h"
+
+int main(void) {
+    run_files(true);
+    return 0;
+}

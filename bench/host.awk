@@ -1,0 +1,39 @@
+# The tables of bench/host: reads the counts at its marks, then the names of what stood between them.
+function commas(n,   s) {
+    s = ""
+    for (n = sprintf("%d", n + 0.5); length(n) > 3; n = substr(n, 1, length(n) - 3)) s = "," substr(n, length(n) - 2) s
+    return n s
+}
+function shown(what, form) { return ((what, form) in value) ? value[what, form] : "-" }
+function put(what, form, n,   before) {
+    before = ((what, form) in value) ? value[what, form] " / " : ""
+    value[what, form] = before commas(n)
+}
+NR == FNR { count[NR] = $1; next }
+/^turns / { split($0, word, " "); turns = word[2]; next }
+/^sum / { next }
+{
+    split($0, part, "|")
+    loops++
+    took = count[2 * loops] - count[2 * loops - 1]
+    if (part[1] == "base") { base[part[3]] = took; next }
+    put(part[1], part[3], (took - base[part[4]]) / turns)
+    if (!(part[1] in seen)) { seen[part[1]] = 1; order[++rows] = part[1] }
+}
+END {
+    forms = split("core_live|core_step|core_inner|C checked|C trusting", form, "|")
+    print "\n### One event in a host\n"
+    print "| event | `core_live` | `core_step` | `core_inner` | C, checked | C, trusting |"
+    print "|---|---|---|---|---|---|"
+    for (k = 1; k <= rows; k++) {
+        what = order[k]
+        if (what == "read") continue
+        line = "| " what " |"
+        for (i = 1; i <= forms; i++) line = line " " shown(what, form[i]) " |"
+        print line
+    }
+    print "\n### Images\n"
+    print "| | ours | C |"
+    print "|---|---|---|"
+    print "| `core_fresh`: an image is read | " shown("read", "core_fresh") " | " shown("read", "C") " |"
+}
