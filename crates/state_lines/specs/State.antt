@@ -50,8 +50,12 @@ vmText k v = vmWord ++ (two k (v .standing) 32 ++ (address (v .address) 32 ++ (f
 unfoldable pub vmsText : List Vm → List ℕ
 vmsText vs = joined (λ k. vmText k (getD vs k fresh)) 8
 
+-- the four lines' worth of a state, by its parts
+abbrev pub partsText : Notice → Clock → ℕ → Queue → List Vm → List ℕ
+partsText t clock running queue vms = noticeText t ++ (clockText clock running ++ (queueText queue ++ vmsText vms))
+
 unfoldable pub stateText : Notice → Core → List ℕ
-stateText t c = noticeText t ++ (clockText (c .clock) (c .running) ++ (queueText (c .queue) ++ vmsText (c .vms)))
+stateText t c = partsText t (c .clock) (c .running) (c .queue) (c .vms)
 
 unfoldable pub statesText : Bool → Notice → Core → List ℕ
 statesText states t c = pick states (stateText t c) []

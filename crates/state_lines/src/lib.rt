@@ -1,42 +1,43 @@
 // The whole state as lines, behind that of the event that left it.
 // The functions ask for room in the buffer and for the table of pairs, as those of `lines` do.
-use change::Answer;
 use change::Notice;
-use core::Core;
 use guest::Status;
 use guest::Vm;
 use queue::Queue;
 use table::Clock;
 ghost use Prim.Native.Nat.{min, _+_, _≤_};
 ghost use lib.ListN.{length};
+ghost use mathlib.Core.List.{[]};
 ghost use mathlib.Core.Path.{_≡_};
-ghost use Rattle.state_lines.specs.State.{clockText, entriesText, entryText, fieldsText, fiveText, noticeText, queueText, stateText, statesText, vmText, vmsText};
+ghost use Rattle.bank.specs.Bank.{vmsOf};
+ghost use Rattle.basis.specs.Choice.{pick};
+ghost use Rattle.state_lines.specs.State.{clockText, entriesText, entryText, fieldsText, fiveText, noticeText, partsText, queueText, vmText, vmsText};
 ghost use Rattle.text.specs.Pairs.{pairs};
 ghost use Rattle.text.specs.Puts.{Puts};
 
-// The state if `states`, else nothing.
-pub fn put_states(b: &mut [u8], at: usize, states: bool, a: Answer, c: Core, t: &[u8; 712]) -> usize
-    requires { ⌜ (now t ≡ pairs) × (at + 1450 ≤ length (now b)) ⌝ }
-    ensures { λ r. ⌜ Puts (statesText states (a .notice) c) (now (b .entry)) at (now (b .exit)) r × (r ≤ at + 1450) ⌝ }
+// The state if `states`, else nothing; the VM records are those of a bank.
+pub fn put_states(
+    b: &mut [u8],
+    at: usize,
+    states: bool,
+    told: Notice,
+    clock: Clock,
+    running: u8,
+    queue: Queue,
+    standings: &[u8],
+    words: &[u32],
+    t: &[u8; 712],
+) -> usize
+    requires { ⌜ (now t ≡ pairs) × (at + 1450 ≤ length (now b)) × (length (now standings) ≡ 8) × (length (now words) ≡ 104) ⌝ }
+    ensures { λ r. ⌜ Puts (pick states (partsText told clock running queue (vmsOf (now (standings .entry)) (now (words .entry)))) []) (now (b .entry)) at (now (b .exit)) r × (r ≤ at + 1450) ⌝ }
 {
     if states {
-        let told = a.notice;
-        return put_state(b, at, told, c, t);
+        let a1 = put_notice(b, at, told, t);
+        let a2 = put_clock(b, a1, clock, running, t);
+        let a3 = put_queue(b, a2, queue);
+        return put_vms(b, a3, standings, words, t);
     }
     at
-}
-
-fn put_state(b: &mut [u8], at: usize, told: Notice, c: Core, t: &[u8; 712]) -> usize
-    requires { ⌜ (now t ≡ pairs) × (at + 1450 ≤ length (now b)) ⌝ }
-    ensures { λ r. ⌜ Puts (stateText told c) (now (b .entry)) at (now (b .exit)) r × (r ≤ at + 1450) ⌝ }
-{
-    let clock = c.clock;
-    let queue = c.queue;
-    let vms = c.vms;
-    let a1 = put_notice(b, at, told, t);
-    let a2 = put_clock(b, a1, clock, c.running, t);
-    let a3 = put_queue(b, a2, queue);
-    put_vms(b, a3, vms, t)
 }
 
 fn put_notice(b: &mut [u8], at: usize, told: Notice, t: &[u8; 712]) -> usize
@@ -101,15 +102,15 @@ fn put_entry(b: &mut [u8], at: usize, v: u8) -> usize
     text::put_decimal(b, word, v as u32)
 }
 
-fn put_vms(b: &mut [u8], at: usize, vms: [Vm; 8], t: &[u8; 712]) -> usize
-    requires { ⌜ (now t ≡ pairs) × (at + 1168 ≤ length (now b)) ⌝ }
-    ensures { λ r. ⌜ Puts (vmsText vms) (now (b .entry)) at (now (b .exit)) r × (r ≤ at + 1168) ⌝ }
+fn put_vms(b: &mut [u8], at: usize, standings: &[u8], words: &[u32], t: &[u8; 712]) -> usize
+    requires { ⌜ (now t ≡ pairs) × (at + 1168 ≤ length (now b)) × (length (now standings) ≡ 8) × (length (now words) ≡ 104) ⌝ }
+    ensures { λ r. ⌜ Puts (vmsText (vmsOf (now (standings .entry)) (now (words .entry)))) (now (b .entry)) at (now (b .exit)) r × (r ≤ at + 1168) ⌝ }
 {
     let mut to = at;
-    let mut k: u32 = 0;
+    let mut k: u8 = 0;
     while k < 8 {
-        let vm = vms[k as usize];
-        to = put_vm(b, to, k, vm, t);
+        let vm = bank::vm_at(standings, words, k);
+        to = put_vm(b, to, k as u32, vm, t);
         k = k + 1;
     }
     to

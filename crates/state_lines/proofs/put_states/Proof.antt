@@ -1,24 +1,40 @@
--- One or nothing.
-use borrow.Author.Needs.{needs}
-use native.Mathlib.Omega.{arith}
+-- The four parts of a state, or nothing.
 use Rattle.lines.proofs.Texts.{puts-none}
 use Rattle.state_lines.proofs.put_states.Statement.{statement}
 use Rattle.state_lines.proofs.put_states.Tie as tie
-use Rattle.state_lines.specs.State.{statesText}
+use Rattle.text.proofs.Puts.{puts-then}
+use borrow.Author.Needs.{needs}
+use native.Mathlib.Omega.{arith}
 
-put-state-requires : tie.Need-put-state-requires
-put-state-requires c κs = search needs
+put-notice-requires : tie.Need-put-notice-requires
+put-notice-requires c κs = search needs
+
+put-clock-requires : tie.Need-put-clock-requires
+put-clock-requires c κs = search needs
+
+put-queue-requires : tie.Need-put-queue-requires
+put-queue-requires c κs = search needs
+
+put-vms-requires : tie.Need-put-vms-requires
+put-vms-requires c κs = search needs
 
 same-length : tie.Need-same-length
 same-length c = search needs
 
 returns : tie.Need-returns
-unfolding statesText
-returns c = rw (c .before .before .before .before .before .if1 .taken) (c .before .before .put-state .ensures)
+returns c = rw (c .before .before .before .before .before .before .before .before .before .before .before .before .before .before .before .before .if1 .taken) (puts-then (c .before .before .before .before .before .before .before .before .before .before .before .before .before .before .put-notice .ensures .0) (puts-then (c .before .before .before .before .before .before .before .before .before .before .put-clock .ensures .0) (puts-then (c .before .before .before .before .before .before .put-queue .ensures .0) (c .before .before .put-vms .ensures .0))), omega (arith, c .before .before .before .before .before .before .before .before .before .before .before .before .before .before .put-notice .ensures .1, c .before .before .before .before .before .before .before .before .before .before .put-clock .ensures .1, c .before .before .before .before .before .before .put-queue .ensures .1, c .before .before .put-vms .ensures .1))
 
 returns-2 : tie.Need-returns-2
-unfolding statesText
 returns-2 c = rw (c .if1 .left) (puts-none _ _, omega arith)
 
 pub put-states-spec : {M : Type 1} → statement M
-put-states-spec = tie.close (tie.spec put-state-requires same-length returns returns-2)
+put-states-spec =
+    tie.close
+    (tie.spec
+    put-notice-requires
+    put-clock-requires
+    put-queue-requires
+    put-vms-requires
+    same-length
+    returns
+    returns-2)

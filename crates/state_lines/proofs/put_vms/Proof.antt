@@ -1,9 +1,6 @@
 -- The first `k` VMs are put.
 use Prim.Native.Nat.{_*_, _+_, _-_, _≤_}
-use borrow.Author.Needs.{needs}
-use lib.ListN.{getD, length}
-use mathlib.Core.Path.{refl, _∙_, _≡_}
-use native.Mathlib.Omega.{arith}
+use Rattle.bank.specs.Bank.{vmsOf}
 use Rattle.basis.specs.Count.{joined}
 use Rattle.guest.specs.Record.{fresh}
 use Rattle.lines.proofs.Texts.{joined-end, joined-more, joined-none}
@@ -11,27 +8,28 @@ use Rattle.state_lines.proofs.put_vms.Statement.{statement}
 use Rattle.state_lines.proofs.put_vms.Tie as tie
 use Rattle.state_lines.specs.State.{vmText, vmsText}
 use Rattle.text.specs.Puts.{Puts}
+use borrow.Author.Needs.{needs}
+use lib.ListN.{getD, length}
+use mathlib.Core.Path.{ap, refl, sym, _∙_, _≡_}
+use native.Mathlib.Omega.{arith}
 
 abbrev Inv-loop : tie.InvT-loop
-Inv-loop b₀ at t vms to₀ k₀ b to k = (k ≤ 8) × (to ≤ at + k * 146) × (length b ≡ length b₀) × Puts (joined (λ j. vmText j (getD vms j fresh)) k) b₀ at b to
+Inv-loop b₀ at standings words t to₀ k₀ b to k = (k ≤ 8) × (to ≤ at + k * 146) × (length b ≡ length b₀) × Puts (joined (λ j. vmText j (getD (vmsOf standings words) j fresh)) k) b₀ at b to
 
 abbrev μ-loop : tie.MeasureT-loop
-μ-loop b₀ at t vms to₀ k₀ b to k = 8 - k
+μ-loop b₀ at standings words t to₀ k₀ b to k = 8 - k
 
 loop-holds : tie.Need-loop-holds Inv-loop μ-loop
 loop-holds c = (omega arith, omega arith, refl, joined-none _)
 
-cast-vm : tie.Need-cast-vm Inv-loop μ-loop
-cast-vm c = search needs
+vm-at-requires : tie.Need-vm-at-requires Inv-loop μ-loop
+vm-at-requires c κs = (c .before .before .before .before .before .pre .2, c .before .before .before .before .before .pre .3)
 
-mul-vm : tie.Need-mul-vm Inv-loop μ-loop
-mul-vm c = search needs
-
-array-copy-out-vm : tie.Need-array-copy-out-vm Inv-loop μ-loop
-array-copy-out-vm c = search needs
+cast-put-vm : tie.Need-cast-put-vm Inv-loop μ-loop
+cast-put-vm c = search needs
 
 put-vm-requires : tie.Need-put-vm-requires Inv-loop μ-loop
-put-vm-requires c κs = (c .before .before .before .before .before .pre .0, omega (arith, c .before .before .before .loop .inv .1, c .before .before .before .loop .inv .2))
+put-vm-requires c κs = (c .before .before .before .before .before .before .before .pre .0, omega (arith, c .before .before .before .loop .inv .1, c .before .before .before .loop .inv .2))
 
 add-k : tie.Need-add-k Inv-loop μ-loop
 add-k c = search needs
@@ -40,7 +38,7 @@ loop-less : tie.Need-loop-less Inv-loop μ-loop
 loop-less c = search needs
 
 loop-again : tie.Need-loop-again Inv-loop μ-loop
-loop-again c = (omega arith, omega (arith, c .before .before .put-vm .ensures .1, c .before .before .before .before .before .before .loop .inv .1), c .before .before .put-vm .kept .0 ∙ c .before .before .before .before .before .before .loop .inv .2, joined-more _ (c .before .before .before .before .before .before .loop .inv .3) (c .before .before .put-vm .ensures .0))
+loop-again c = (omega arith, omega (arith, c .before .before .put-vm .ensures .1, c .before .before .before .before .before .before .loop .inv .1), c .before .before .put-vm .kept .0 ∙ c .before .before .before .before .before .before .loop .inv .2, joined-more _ (c .before .before .before .before .before .before .loop .inv .3) (rw (c .before .before .before .before .vm-at .ensures) at (c .before .before .put-vm .ensures .0)))
 
 same-length : tie.Need-same-length Inv-loop μ-loop
 same-length c = c .before .loop .inv .2
@@ -56,9 +54,8 @@ put-vms-spec =
     Inv-loop
     μ-loop
     loop-holds
-    cast-vm
-    mul-vm
-    array-copy-out-vm
+    vm-at-requires
+    cast-put-vm
     put-vm-requires
     add-k
     loop-less
