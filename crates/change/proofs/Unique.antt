@@ -21,6 +21,12 @@ use Rattle.change.proofs.Change.turned_away.Kinds as turned-aways
 use Rattle.change.proofs.Change.turned_away.Reads as turned-away
 use Rattle.change.proofs.Change.called.Kinds as calleds
 use Rattle.change.proofs.Change.called.Reads as called
+use Rattle.change.proofs.Change.ticking.Kinds as tickings
+use Rattle.change.proofs.Change.ticking.Reads as ticking
+use Rattle.change.proofs.Change.stopping.Kinds as stoppings
+use Rattle.change.proofs.Change.stopping.Reads as stopping
+use Rattle.change.proofs.Change.answer.Kinds as answers
+use Rattle.change.proofs.Change.answer.Reads as answer
 
 pub told-one : OneAnswer 0 tolds.ps tolds.r told.Post
 told-one κs a x y s t p q = p ∙ sym q
@@ -51,3 +57,12 @@ turned-away-one κs a x y s t p q = p ∙ sym q
 
 pub called-one : OneAnswer 0 calleds.ps calleds.r called.Post
 called-one κs a x y s t p q = p ∙ sym q
+
+pub ticking-one : OneAnswer 0 tickings.ps tickings.r ticking.Post
+ticking-one κs a x y s t p q = p ∙ sym q
+
+pub stopping-one : OneAnswer 0 stoppings.ps stoppings.r stopping.Post
+stopping-one κs a x y s t p q = p ∙ sym q
+
+pub answer-one : OneAnswer 0 answers.ps answers.r answer.Post
+answer-one κs a x y s t p q = p ∙ sym q

@@ -15,6 +15,10 @@ use Rattle.checks.proofs.rows.of_fault.Kinds as of-faults
 use Rattle.checks.proofs.rows.of_fault.Reads as of-fault
 use Rattle.checks.proofs.sound.parts_sound.Kinds as parts-sounds
 use Rattle.checks.proofs.sound.parts_sound.Reads as parts-sound
+use Rattle.checks.proofs.rows.of_start.Kinds as of-starts
+use Rattle.checks.proofs.rows.of_start.Reads as of-start
+use Rattle.checks.proofs.rows.of_tick.Kinds as of-ticks
+use Rattle.checks.proofs.rows.of_tick.Reads as of-tick
 
 pub of-ready-one : OneAnswer 0 of-readys.ps of-readys.r of-ready.Post
 of-ready-one κs a x y s t p q = p ∙ sym q
@@ -36,3 +40,9 @@ of-fault-one κs a x y s t p q = p ∙ sym q
 
 pub parts-sound-one : OneAnswer 4 parts-sounds.ps parts-sounds.r parts-sound.Post
 parts-sound-one κs a x y s t p q = p ∙ sym q
+
+pub of-start-one : OneAnswer 0 of-starts.ps of-starts.r of-start.Post
+of-start-one κs a x y s t p q = p ∙ sym q
+
+pub of-tick-one : OneAnswer 0 of-ticks.ps of-ticks.r of-tick.Post
+of-tick-one κs a x y s t p q = p ∙ sym q

@@ -5,7 +5,8 @@ use contract.Lifetimes.{Lfts}
 use denote.Ref.{now}
 use denote.Triple.Clauses.{AtExit}
 use mathlib.Core.List.{List}
-use mathlib.Core.Path.{_≡_}
+use mathlib.Core.Path.{sym, _∙_, _≡_}
+use Rattle.basis.proofs.Unique.{OneAnswer}
 use Rattle.text.proofs.Puts.{puts-one}
 use Rattle.text.proofs.put_address.Kinds as put-address-kinds
 use Rattle.text.proofs.put_address.Reads as put-address-reads
@@ -27,6 +28,8 @@ use Rattle.text.proofs.put_number_by.Kinds as put-number-by-kinds
 use Rattle.text.proofs.put_number_by.Reads as put-number-by-reads
 use Rattle.text.proofs.put_word.Kinds as put-word-kinds
 use Rattle.text.proofs.put_word.Reads as put-word-reads
+use Rattle.text.proofs.pair.table.Kinds as table-kinds
+use Rattle.text.proofs.pair.table.Reads as table-reads
 
 -- for the same arguments one content of the buffer and one answer; `Post` is the contract as the source has it, `content` what a buffer holds at exit
 abbrev pub OneOutcome : (n : ℕ) (ps : List (PK n)) (r : RK n) → Out n ps r → ((κs : Lfts n) → AtExit (endedOf n ps r) κs → List ℕ) → Type 0
@@ -62,3 +65,6 @@ put-address-one κs a x y s t p q = puts-one (p .0) (q .0)
 
 pub put-mark-one : OneOutcome 1 put-mark-kinds.ps put-mark-kinds.r put-mark-reads.Post (λ κs s. now (s .0))
 put-mark-one κs a x y s t p q = puts-one (p .0) (q .0)
+
+pub table-one : OneAnswer 0 table-kinds.ps table-kinds.r table-reads.Post
+table-one κs a x y s t p q = p ∙ sym q
