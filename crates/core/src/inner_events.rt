@@ -1,48 +1,96 @@
-// The inner events: each event on a state that the caller knows to be sound. They do not test that, and are total all the same.
+// The inner events: an event on a state that the caller knows to be sound. They do not test that, and are total all the same.
+// They give the parts of the state that an event may change: the configuration is not among them.
+use crate::After;
 use crate::Core;
-use crate::Stepped;
 use basis::places;
 use change::Answer;
 use change::Change;
-use change::Notice;
-use checks::rows;
 use config::Config;
 use event::Event;
 use guest::Vm;
+use queue::Queue;
 use table::Clock;
+ghost use lib.Dec.{eqb};
 ghost use mathlib.Core.Path.{_≡_};
-ghost use Rattle.core.specs.Events.{innerOf};
+ghost use Rattle.basis.specs.Choice.{pick};
+ghost use Rattle.basis.specs.Nobody.{nobody};
+ghost use Rattle.change.specs.Changes.{renewedFrom};
+ghost use Rattle.core.specs.Events.{done, innerOf};
+ghost use Rattle.core.specs.Parts.{changeIn, kept, partsOf};
+ghost use Rattle.logic.specs.Changing.{changeFrom};
 
 impl Core {
-    // D1, D2.
-    pub fn start_in(self) -> Stepped
-        ensures { λ r. ⌜ r ≡ innerOf self Event.Start ⌝ }
+    // Any event.
+    pub fn after(self, e: Event) -> After
+        ensures { λ r. ⌜ r ≡ partsOf (innerOf self e) ⌝ }
+    {
+        match e {
+            Event::Start => self.start_after(),
+            Event::Tick(at) => self.tick_after(at),
+            _ => self.change_after(e),
+        }
+    }
+
+    // A refusal with n, which is not 1: the state as it was (R2, R3).
+    pub fn kept(self, n: u8) -> After
+        ensures { λ r. ⌜ r ≡ kept self n ⌝ }
+    {
+        let vms = self.vms;
+        let clock = self.clock;
+        let queue = self.queue;
+        let runs = vms::vm_at(vms, self.running);
+        After {
+            vms: vms,
+            clock: clock,
+            running: self.running,
+            queue: queue,
+            answer: Answer::quiet(n, self.running, runs.address),
+        }
+    }
+
+    fn start_after(self) -> After
+        ensures { λ r. ⌜ r ≡ partsOf (innerOf self Event.Start) ⌝ }
     {
         if self.clock.started == Clock::YES {
-            return self.refused(7);
+            self.kept(7)
+        } else {
+            self.start_done()
         }
+    }
+
+    fn tick_after(self, at: u32) -> After
+        ensures { λ r. ⌜ r ≡ partsOf (innerOf self (Event.Tick at)) ⌝ }
+    {
+        if self.clock.started == Clock::YES {
+            self.tick_done(at)
+        } else {
+            self.kept(2)
+        }
+    }
+
+    // D1, D2.
+    fn start_done(self) -> After
+        ensures { λ r. ⌜ r ≡ partsOf (done self Event.Start) ⌝ }
+    {
         let config = self.config;
         let entries = config.entries;
         let queue = self.queue;
         let old = self.vms;
         let vms = vms::started(old, config.count, &entries);
-        let core = Core {
-            config: config,
+        let runs = vms::vm_at(vms, self.running);
+        After {
+            vms: vms,
             clock: self.clock.started(),
             running: self.running,
             queue: queue,
-            vms: vms,
-        };
-        core.answered()
+            answer: Answer::quiet(0, self.running, runs.address),
+        }
     }
 
     // D3 to D9.
-    pub fn tick_in(self, at: u32) -> Stepped
-        ensures { λ r. ⌜ r ≡ innerOf self (Event.Tick at) ⌝ }
+    fn tick_done(self, at: u32) -> After
+        ensures { λ r. ⌜ r ≡ partsOf (done self (Event.Tick at)) ⌝ }
     {
-        if self.clock.started != Clock::YES {
-            return self.refused(2);
-        }
         let config = self.config;
         let owners = config.owners;
         let durations = config.durations;
@@ -64,145 +112,87 @@ impl Core {
         );
         let vms = t.vms;
         let rest = served.queue;
-        let none = Notice::told(0, 0, 0, 0);
-        Stepped {
-            core: Core {
-                config: config,
-                clock: clock,
-                running: t.who,
-                queue: rest,
-                vms: vms,
-            },
-            answer: Answer {
-                refusal: 0,
-                running: t.who,
-                address: t.address,
-                delivered: t.number,
-                notice: none,
-                result: 0,
-                removed: 0,
-            },
+        let mut told = Answer::quiet(0, t.who, t.address);
+        told.delivered = t.number;
+        After {
+            vms: vms,
+            clock: clock,
+            running: t.who,
+            queue: rest,
+            answer: told,
         }
     }
 
-    // D14 to D16.
-    pub fn stop_in(self, v: u8) -> Stepped
-        ensures { λ r. ⌜ r ≡ innerOf self (Event.Stop v) ⌝ }
+    // D14 to D30: the events that are about one VM, read and stored at its number modulo 8, with no branch over the records.
+    fn change_after(self, e: Event) -> After
+        ensures { λ r. ⌜ r ≡ partsOf (changeIn self e) ⌝ }
     {
-        let vms = self.vms;
-        let vm = vms::vm_at(vms, v);
-        let n = rows::of_ready(self.clock.started, self.config.count, v, vm.is_ready());
-        if n != 0 {
-            return self.refused(n);
-        }
-        let queue = self.queue;
-        let told = Notice::told(1, v, 0, 0);
-        self.changed(Change::ending(v, vm, Vm::STOPPED, self.running, queue, told))
-    }
-
-    // D17.
-    pub fn shutdown_in(self, v: u8) -> Stepped
-        ensures { λ r. ⌜ r ≡ innerOf self (Event.Shutdown v) ⌝ }
-    {
-        let vms = self.vms;
-        let vm = vms::vm_at(vms, v);
-        let n = rows::of_ready(self.clock.started, self.config.count, v, vm.is_ready());
-        if n != 0 {
-            return self.refused(n);
-        }
-        let queue = self.queue;
-        let waits = Answer::NOTHING;
-        self.changed(Change::renewed(v, vm.pended(Vm::SHUTDOWN), self.running, queue, waits))
-    }
-
-    // D18, D19.
-    pub fn restart_in(self, v: u8) -> Stepped
-        ensures { λ r. ⌜ r ≡ innerOf self (Event.Restart v) ⌝ }
-    {
-        let n = rows::of_any(self.clock.started, self.config.count, v);
-        if n != 0 {
-            return self.refused(n);
-        }
-        let queue = self.queue;
-        let entries = self.config.entries;
-        let entry = places::word_at(&entries, v as usize);
-        self.changed(Change::restarting(v, entry, self.running, queue))
-    }
-
-    // D20.
-    pub fn extra_in(self, v: u8) -> Stepped
-        ensures { λ r. ⌜ r ≡ innerOf self (Event.Extra v) ⌝ }
-    {
-        let vms = self.vms;
-        let vm = vms::vm_at(vms, v);
-        let queue = self.queue;
-        let n = rows::of_request(
-            self.clock.started,
-            self.config.count,
-            v,
-            vm.is_ready(),
-            self.config.room,
+        let config = self.config;
+        let entries = config.entries;
+        let handlers = config.handlers;
+        let running = self.running;
+        let clock = self.clock;
+        let queue = made_again(self.queue);
+        let mut w = self.vms;
+        let place = logic::place_of(e, running);
+        let i = (place % 8) as usize;
+        let old = w[i];
+        let vm = old.or_fresh(place < 8);
+        let ready = vm.is_ready();
+        let n = logic::row_of(
+            e,
+            clock.started,
+            config.count,
+            running,
+            ready,
+            config.room,
             queue.len,
         );
-        if n != 0 {
-            return self.refused(n);
+        let full = config.room <= queue.len;
+        let entry = places::word_at(&entries, place as usize);
+        let handler = places::word_at(&handlers, place as usize);
+        let d = change_unless(n, e, place, vm, running, queue, full, entry, handler);
+        let y = d.vm;
+        w[i] = y.or_kept(place < 8, old);
+        let runs = w[(d.running % 8) as usize];
+        let rest = d.queue;
+        After {
+            vms: w,
+            clock: clock,
+            running: d.running,
+            queue: rest,
+            answer: d.answer(n, d.running, vms::if_vm(d.running, runs.address)),
         }
-        self.changed(Change::queueing(v, vm, self.running, queue))
     }
+}
 
-    // D24 to D30.
-    pub fn call_in(self, service: u8, argument: u32, next: u32) -> Stepped
-        ensures { λ r. ⌜ r ≡ innerOf self (Event.Call service argument next) ⌝ }
-    {
-        let v = self.running;
-        let n = rows::of_running(self.clock.started, v);
-        if n != 0 {
-            return self.refused(n);
-        }
-        let vms = self.vms;
-        let vm = vms::vm_at(vms, v).saved(next);
-        let queue = self.queue;
-        let handlers = self.config.handlers;
-        let full = self.config.room <= queue.len;
-        self.changed(Change::called(
-            v,
-            vm,
-            v,
-            queue,
-            full,
-            places::word_at(&handlers, v as usize),
-            service,
-            argument,
-        ))
+// What an event that is not refused makes of the VM at its place; a refused one makes nothing of it (R2).
+fn change_unless(
+    n: u8,
+    e: Event,
+    place: u8,
+    vm: Vm,
+    running: u8,
+    queue: Queue,
+    full: bool,
+    entry: u32,
+    handler: u32,
+) -> Change
+    ensures { λ r. ⌜ r ≡ pick (eqb n 0) (changeFrom e place vm running queue full 0 entry handler) (renewedFrom running queue place vm nobody) ⌝ }
+{
+    if n == 0 {
+        return logic::change_of(e, place, vm, running, queue, full, 0, entry, handler);
     }
+    Change::renewed(place, vm, running, queue, Answer::NOTHING)
+}
 
-    // D21, D22.
-    pub fn write_in(self, offset: u8, value: u32) -> Stepped
-        ensures { λ r. ⌜ r ≡ innerOf self (Event.Write offset value) ⌝ }
-    {
-        let v = self.running;
-        let n = rows::of_write(self.clock.started, v, offset);
-        if n != 0 {
-            return self.refused(n);
-        }
-        let vms = self.vms;
-        let vm = vms::vm_at(vms, v);
-        let queue = self.queue;
-        self.changed(Change::renewed(v, vm.written(offset, value), v, queue, Answer::NOTHING))
-    }
-
-    // D23.
-    pub fn fault_in(self, code: u8, detail: u32) -> Stepped
-        ensures { λ r. ⌜ r ≡ innerOf self (Event.Fault code detail) ⌝ }
-    {
-        let v = self.running;
-        let n = rows::of_fault(self.clock.started, v, code);
-        if n != 0 {
-            return self.refused(n);
-        }
-        let vms = self.vms;
-        let vm = vms::vm_at(vms, v);
-        let queue = self.queue;
-        self.changed(Change::failing(v, vm, v, queue, code, detail))
+// The same queue, made of its parts: in a place of its own, so that no call is lent a part of the state, which would then be copied whole.
+fn made_again(q: Queue) -> Queue
+    ensures { λ r. ⌜ r ≡ q ⌝ }
+{
+    let items = q.items;
+    Queue {
+        items: items,
+        len: q.len,
     }
 }

@@ -1,18 +1,15 @@
 // The core: its state, whether it is sound, and every event as a method that takes the state by value.
+mod inner_by_name;
 mod inner_events;
 mod public_events;
 
 use change::Answer;
-use change::Change;
 use checks::sound;
 use config::Config;
 use guest::Vm;
 use queue::Queue;
 use table::Clock;
 ghost use mathlib.Core.Path.{_≡_};
-ghost use Rattle.basis.specs.Nobody.{nobody};
-ghost use Rattle.change.specs.Answers.{noNotice};
-ghost use Rattle.core.specs.Changes.{answering, changedBy};
 ghost use Rattle.core.specs.Refusals.{refused};
 ghost use Rattle.core.specs.Sound.{sound};
 ghost use Rattle.core.specs.State.{freshCore};
@@ -31,6 +28,15 @@ pub struct Core {
 #[repr(C)]
 pub struct Stepped {
     pub core: Core,
+    pub answer: Answer,
+}
+
+// The parts of a state that an event may change, with the answer.
+pub struct After {
+    pub vms: [Vm; 8],
+    pub clock: Clock,
+    pub running: u8,
+    pub queue: Queue,
     pub answer: Answer,
 }
 
@@ -94,50 +100,6 @@ impl Core {
         Stepped {
             core: core,
             answer: Answer::quiet(n, self.running, vm.address),
-        }
-    }
-
-    // One VM's record replaced, with who runs and the queue (K2).
-    fn changed(self, d: Change) -> Stepped
-        ensures { λ r. ⌜ r ≡ changedBy self d ⌝ }
-    {
-        let config = self.config;
-        let stands = self.clock;
-        let queue = d.queue;
-        let vm = d.vm;
-        let notice = d.notice;
-        let old = self.vms;
-        let vms = vms::with_vm(old, d.place, vm);
-        let runs = vms::vm_at(vms, d.running);
-        Stepped {
-            core: Core {
-                config: config,
-                clock: stands,
-                running: d.running,
-                queue: queue,
-                vms: vms,
-            },
-            answer: Answer {
-                refusal: 0,
-                running: d.running,
-                address: runs.address,
-                delivered: d.delivered,
-                notice: notice,
-                result: d.result,
-                removed: d.removed,
-            },
-        }
-    }
-
-    // A core after an event that delivers nothing and has nothing to tell (A1, A2).
-    fn answered(self) -> Stepped
-        ensures { λ r. ⌜ r ≡ answering self nobody noNotice 0 0 ⌝ }
-    {
-        let vms = self.vms;
-        let runs = vms::vm_at(vms, self.running);
-        Stepped {
-            core: self,
-            answer: Answer::quiet(0, self.running, runs.address),
         }
     }
 }

@@ -9,91 +9,55 @@ impl Core {
     pub fn start(self) -> Stepped
         ensures { λ r. ⌜ r ≡ stepOf self Event.Start ⌝ }
     {
-        if self.sound() {
-            self.start_in()
-        } else {
-            self.refused(1)
-        }
+        self.step(Event::Start)
     }
 
     pub fn tick(self, at: u32) -> Stepped
         ensures { λ r. ⌜ r ≡ stepOf self (Event.Tick at) ⌝ }
     {
-        if self.sound() {
-            self.tick_in(at)
-        } else {
-            self.refused(1)
-        }
+        self.step(Event::Tick(at))
     }
 
     pub fn stop(self, v: u8) -> Stepped
         ensures { λ r. ⌜ r ≡ stepOf self (Event.Stop v) ⌝ }
     {
-        if self.sound() {
-            self.stop_in(v)
-        } else {
-            self.refused(1)
-        }
+        self.step(Event::Stop(v))
     }
 
     pub fn shutdown(self, v: u8) -> Stepped
         ensures { λ r. ⌜ r ≡ stepOf self (Event.Shutdown v) ⌝ }
     {
-        if self.sound() {
-            self.shutdown_in(v)
-        } else {
-            self.refused(1)
-        }
+        self.step(Event::Shutdown(v))
     }
 
     pub fn restart(self, v: u8) -> Stepped
         ensures { λ r. ⌜ r ≡ stepOf self (Event.Restart v) ⌝ }
     {
-        if self.sound() {
-            self.restart_in(v)
-        } else {
-            self.refused(1)
-        }
+        self.step(Event::Restart(v))
     }
 
     pub fn extra(self, v: u8) -> Stepped
         ensures { λ r. ⌜ r ≡ stepOf self (Event.Extra v) ⌝ }
     {
-        if self.sound() {
-            self.extra_in(v)
-        } else {
-            self.refused(1)
-        }
+        self.step(Event::Extra(v))
     }
 
     pub fn call(self, service: u8, argument: u32, next: u32) -> Stepped
         ensures { λ r. ⌜ r ≡ stepOf self (Event.Call service argument next) ⌝ }
     {
-        if self.sound() {
-            self.call_in(service, argument, next)
-        } else {
-            self.refused(1)
-        }
+        self.step(Event::Call(service, argument, next))
     }
 
     pub fn write(self, offset: u8, value: u32) -> Stepped
         ensures { λ r. ⌜ r ≡ stepOf self (Event.Write offset value) ⌝ }
     {
-        if self.sound() {
-            self.write_in(offset, value)
-        } else {
-            self.refused(1)
-        }
+        self.step(Event::Write(offset, value))
     }
 
     pub fn fault(self, code: u8, detail: u32) -> Stepped
         ensures { λ r. ⌜ r ≡ stepOf self (Event.Fault code detail) ⌝ }
     {
-        if self.sound() {
-            self.fault_in(code, detail)
-        } else {
-            self.refused(1)
-        }
+        self.step(Event::Fault(code, detail))
     }
 
     // Any event.
@@ -111,16 +75,21 @@ impl Core {
     pub fn inner(self, e: Event) -> Stepped
         ensures { λ r. ⌜ r ≡ innerOf self e ⌝ }
     {
-        match e {
-            Event::Start => self.start_in(),
-            Event::Tick(at) => self.tick_in(at),
-            Event::Stop(v) => self.stop_in(v),
-            Event::Shutdown(v) => self.shutdown_in(v),
-            Event::Restart(v) => self.restart_in(v),
-            Event::Extra(v) => self.extra_in(v),
-            Event::Call(service, argument, next) => self.call_in(service, argument, next),
-            Event::Write(offset, value) => self.write_in(offset, value),
-            Event::Fault(code, detail) => self.fault_in(code, detail),
+        let config = self.config;
+        let t = self.after(e);
+        let vms = t.vms;
+        let clock = t.clock;
+        let queue = t.queue;
+        let answer = t.answer;
+        Stepped {
+            core: Core {
+                config: config,
+                clock: clock,
+                running: t.running,
+                queue: queue,
+                vms: vms,
+            },
+            answer: answer,
         }
     }
 }

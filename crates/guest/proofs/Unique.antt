@@ -21,6 +21,10 @@ use Rattle.guest.proofs.Vm.is_ready.Kinds as is-ready-kinds
 use Rattle.guest.proofs.Vm.is_ready.Reads as is-ready-reads
 use Rattle.guest.proofs.Vm.older_if.Kinds as older-if-kinds
 use Rattle.guest.proofs.Vm.older_if.Reads as older-if-reads
+use Rattle.guest.proofs.Vm.or_fresh.Kinds as or-fresh-kinds
+use Rattle.guest.proofs.Vm.or_fresh.Reads as or-fresh-reads
+use Rattle.guest.proofs.Vm.or_kept.Kinds as or-kept-kinds
+use Rattle.guest.proofs.Vm.or_kept.Reads as or-kept-reads
 use Rattle.guest.proofs.Vm.pended.Kinds as pended-kinds
 use Rattle.guest.proofs.Vm.pended.Reads as pended-reads
 use Rattle.guest.proofs.Vm.returned.Kinds as returned-kinds
@@ -81,3 +85,9 @@ guest-written-one κs a x y s t p q = p ∙ sym q
 
 pub guest-is-field-one : OneAnswer 0 is-field-kinds.ps is-field-kinds.r is-field-reads.Post
 guest-is-field-one κs a x y s t p q = p ∙ sym q
+
+pub guest-or-fresh-one : OneAnswer 0 or-fresh-kinds.ps or-fresh-kinds.r or-fresh-reads.Post
+guest-or-fresh-one κs a x y s t p q = p ∙ sym q
+
+pub guest-or-kept-one : OneAnswer 0 or-kept-kinds.ps or-kept-kinds.r or-kept-reads.Post
+guest-or-kept-one κs a x y s t p q = p ∙ sym q

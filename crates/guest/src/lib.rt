@@ -274,6 +274,20 @@ impl Vm {
     {
         both(offset % 4 == 0, offset <= 36)
     }
+
+    // Itself, or the fresh record.
+    pub fn or_fresh(self, on: bool) -> Vm
+        ensures { λ r. ⌜ r ≡ pick on self fresh ⌝ }
+    {
+        if on { self } else { Vm::fresh() }
+    }
+
+    // Itself, or the record that stood there.
+    pub fn or_kept(self, on: bool, old: Vm) -> Vm
+        ensures { λ r. ⌜ r ≡ pick on self old ⌝ }
+    {
+        if on { self } else { old }
+    }
 }
 
 fn blank() -> Status
