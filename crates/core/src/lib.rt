@@ -1,5 +1,4 @@
 // The core: its state, whether it is sound, and every event as a method that takes the state by value.
-mod inner_by_name;
 mod inner_events;
 mod public_events;
 

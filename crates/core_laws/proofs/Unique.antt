@@ -3,16 +3,10 @@ use mathlib.Core.Path.{sym, _∙_}
 use Rattle.basis.proofs.Unique.{OneAnswer}
 use Rattle.core.proofs.Core.call.Kinds as core-call-kinds
 use Rattle.core.proofs.Core.call.Reads as core-call-reads
-use Rattle.core.proofs.Core.call_in.Kinds as core-call-in-kinds
-use Rattle.core.proofs.Core.call_in.Reads as core-call-in-reads
 use Rattle.core.proofs.Core.extra.Kinds as core-extra-kinds
 use Rattle.core.proofs.Core.extra.Reads as core-extra-reads
-use Rattle.core.proofs.Core.extra_in.Kinds as core-extra-in-kinds
-use Rattle.core.proofs.Core.extra_in.Reads as core-extra-in-reads
 use Rattle.core.proofs.Core.fault.Kinds as core-fault-kinds
 use Rattle.core.proofs.Core.fault.Reads as core-fault-reads
-use Rattle.core.proofs.Core.fault_in.Kinds as core-fault-in-kinds
-use Rattle.core.proofs.Core.fault_in.Reads as core-fault-in-reads
 use Rattle.core.proofs.Core.fresh.Kinds as core-fresh-kinds
 use Rattle.core.proofs.Core.fresh.Reads as core-fresh-reads
 use Rattle.core.proofs.Core.inner.Kinds as core-inner-kinds
@@ -21,32 +15,20 @@ use Rattle.core.proofs.Core.refused.Kinds as core-refused-kinds
 use Rattle.core.proofs.Core.refused.Reads as core-refused-reads
 use Rattle.core.proofs.Core.restart.Kinds as core-restart-kinds
 use Rattle.core.proofs.Core.restart.Reads as core-restart-reads
-use Rattle.core.proofs.Core.restart_in.Kinds as core-restart-in-kinds
-use Rattle.core.proofs.Core.restart_in.Reads as core-restart-in-reads
 use Rattle.core.proofs.Core.shutdown.Kinds as core-shutdown-kinds
 use Rattle.core.proofs.Core.shutdown.Reads as core-shutdown-reads
-use Rattle.core.proofs.Core.shutdown_in.Kinds as core-shutdown-in-kinds
-use Rattle.core.proofs.Core.shutdown_in.Reads as core-shutdown-in-reads
 use Rattle.core.proofs.Core.sound.Kinds as core-sound-kinds
 use Rattle.core.proofs.Core.sound.Reads as core-sound-reads
 use Rattle.core.proofs.Core.start.Kinds as core-start-kinds
 use Rattle.core.proofs.Core.start.Reads as core-start-reads
-use Rattle.core.proofs.Core.start_in.Kinds as core-start-in-kinds
-use Rattle.core.proofs.Core.start_in.Reads as core-start-in-reads
 use Rattle.core.proofs.Core.step.Kinds as core-step-kinds
 use Rattle.core.proofs.Core.step.Reads as core-step-reads
 use Rattle.core.proofs.Core.stop.Kinds as core-stop-kinds
 use Rattle.core.proofs.Core.stop.Reads as core-stop-reads
-use Rattle.core.proofs.Core.stop_in.Kinds as core-stop-in-kinds
-use Rattle.core.proofs.Core.stop_in.Reads as core-stop-in-reads
 use Rattle.core.proofs.Core.tick.Kinds as core-tick-kinds
 use Rattle.core.proofs.Core.tick.Reads as core-tick-reads
-use Rattle.core.proofs.Core.tick_in.Kinds as core-tick-in-kinds
-use Rattle.core.proofs.Core.tick_in.Reads as core-tick-in-reads
 use Rattle.core.proofs.Core.write.Kinds as core-write-kinds
 use Rattle.core.proofs.Core.write.Reads as core-write-reads
-use Rattle.core.proofs.Core.write_in.Kinds as core-write-in-kinds
-use Rattle.core.proofs.Core.write_in.Reads as core-write-in-reads
 
 pub core-fresh-one : OneAnswer 0 core-fresh-kinds.ps core-fresh-kinds.r core-fresh-reads.Post
 core-fresh-one κs a x y s t p q = p ∙ sym q
@@ -89,30 +71,3 @@ core-step-one κs a x y s t p q = p ∙ sym q
 
 pub core-inner-one : OneAnswer 0 core-inner-kinds.ps core-inner-kinds.r core-inner-reads.Post
 core-inner-one κs a x y s t p q = p ∙ sym q
-
-pub core-start-in-one : OneAnswer 0 core-start-in-kinds.ps core-start-in-kinds.r core-start-in-reads.Post
-core-start-in-one κs a x y s t p q = p ∙ sym q
-
-pub core-tick-in-one : OneAnswer 0 core-tick-in-kinds.ps core-tick-in-kinds.r core-tick-in-reads.Post
-core-tick-in-one κs a x y s t p q = p ∙ sym q
-
-pub core-stop-in-one : OneAnswer 0 core-stop-in-kinds.ps core-stop-in-kinds.r core-stop-in-reads.Post
-core-stop-in-one κs a x y s t p q = p ∙ sym q
-
-pub core-shutdown-in-one : OneAnswer 0 core-shutdown-in-kinds.ps core-shutdown-in-kinds.r core-shutdown-in-reads.Post
-core-shutdown-in-one κs a x y s t p q = p ∙ sym q
-
-pub core-restart-in-one : OneAnswer 0 core-restart-in-kinds.ps core-restart-in-kinds.r core-restart-in-reads.Post
-core-restart-in-one κs a x y s t p q = p ∙ sym q
-
-pub core-extra-in-one : OneAnswer 0 core-extra-in-kinds.ps core-extra-in-kinds.r core-extra-in-reads.Post
-core-extra-in-one κs a x y s t p q = p ∙ sym q
-
-pub core-call-in-one : OneAnswer 0 core-call-in-kinds.ps core-call-in-kinds.r core-call-in-reads.Post
-core-call-in-one κs a x y s t p q = p ∙ sym q
-
-pub core-write-in-one : OneAnswer 0 core-write-in-kinds.ps core-write-in-kinds.r core-write-in-reads.Post
-core-write-in-one κs a x y s t p q = p ∙ sym q
-
-pub core-fault-in-one : OneAnswer 0 core-fault-in-kinds.ps core-fault-in-kinds.r core-fault-in-reads.Post
-core-fault-in-one κs a x y s t p q = p ∙ sym q
