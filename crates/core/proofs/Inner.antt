@@ -165,7 +165,7 @@ module _ (l : List Vm) (i : ℕ) (long : length l ≡ 8) where
       go false f g = g ∙ ap (λ (v : Vm). v .address) (sym (List·getD-eq-default l fresh (omega (arith, ltb-false i 8 f))))
 
 -- the row asks for readiness of the VM that the master names alone
-row-is : (c : Core) (e : Event) → rowFrom e (c .clock .started) (c .config .count) (c .running) (readyAt c (placeFrom e (c .running))) (c .config .room) (c .queue .len) ≡ rowOf c e
+pub row-is : (c : Core) (e : Event) → rowFrom e (c .clock .started) (c .config .count) (c .running) (readyAt c (placeFrom e (c .running))) (c .config .room) (c .queue .len) ≡ rowOf c e
 unfolding rowOf
 row-is c Start = refl
 row-is c (Tick a) = refl
@@ -189,7 +189,7 @@ not-first false false false false false false true h z = absurd (omega arith)
 not-first false false false false false false false true z = absurd (omega arith)
 not-first false false false false false false false false z = absurd (omega arith)
 
-not-1 : (c : Core) (e : Event) → rowOf c e ≡ 1 → ⊥
+pub not-1 : (c : Core) (e : Event) → rowOf c e ≡ 1 → ⊥
 unfolding rowOf
 not-1 c e =
     not-first (both (isStart e) (eqb (c .clock .started) 1)) (both (not (isStart e)) (not (eqb (c .clock .started) 1))) (both (ofMaster e) (not (ltb (subject e) (c .config .count))))
@@ -200,7 +200,7 @@ place-pick : (v : ℕ) (b : Bool) (x y : Change) → x .place ≡ v → y .place
 place-pick v true x y e f = e
 place-pick v false x y e f = f
 
-change-place : (e : Event) (v : ℕ) (vm : Vm) (running : ℕ) (queue : Queue) (noRoom : Bool) (left entry handler : ℕ) → changeFrom e v vm running queue noRoom left entry handler .place ≡ v
+pub change-place : (e : Event) (v : ℕ) (vm : Vm) (running : ℕ) (queue : Queue) (noRoom : Bool) (left entry handler : ℕ) → changeFrom e v vm running queue noRoom left entry handler .place ≡ v
 unfolding changeFrom calledFrom
 change-place Start v vm running queue noRoom left entry handler = refl
 change-place (Tick a) v vm running queue noRoom left entry handler = refl
@@ -255,7 +255,7 @@ module _ (c : Core) (e : Event) where
       go row false t h = (rw (h, hp) (applied-not n row (eqb-false n 0 t)))
 
 -- such an event, and no other, is done by its change
-plain : (c : Core) (e : Event) → isTick e ≡ false → isStart e ≡ false → changedBy c (changeAt c e (placeFrom e (c .running))) ≡ done c e
+pub plain : (c : Core) (e : Event) → isTick e ≡ false → isStart e ≡ false → changedBy c (changeAt c e (placeFrom e (c .running))) ≡ done c e
 unfolding done changeFrom
 plain c Start t s = false-true (sym s)
 plain c (Tick a) t s = false-true (sym t)

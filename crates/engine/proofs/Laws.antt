@@ -1,43 +1,43 @@
 -- An event over a bank is the event: refused, a tick, a start, a change of one VM.
-use Prim.Native.Nat.{suc, zero, ℕ, _≤_}
+use Prim.Native.Nat.{ℕ, _≤_}
 use borrow.Author.Tests.{ltb-false, ne-eqb}
 use denote.Enum.Declared.{tagOf}
 use lib.Dec.{eqb, leb, ltb}
 use lib.ListN.{List·getD-eq-default, getD, length, set}
-use mathlib.Core.Bool.{Bool, false, not, true}
+use mathlib.Core.Bool.{Bool, false, true}
 use mathlib.Core.List.{List}
 use mathlib.Core.Logic.{inl, inr, _⊎_}
-use mathlib.Core.Path.{ap, refl, _∙_, _≡_}
+use mathlib.Core.Path.{ap, refl, sym, _∙_, _≡_}
 use native.Mathlib.Omega.{arith}
 use Rattle.bank.proofs.Laws.{eight}
 use Rattle.bank.specs.Bank.{vmsOf}
-use Rattle.basis.specs.Choice.{both, pick}
+use Rattle.basis.specs.Choice.{pick}
 use Rattle.basis.specs.Nobody.{nobody}
 use Rattle.change.specs.Answers.{noNotice, quietly}
-use Rattle.change.specs.Changes.{calledFrom, deliveringFrom, failingFrom, tickingFrom}
+use Rattle.change.specs.Changes.{tickingFrom}
 use Rattle.change.specs.declared.Answer.{Answer}
 use Rattle.change.specs.declared.Change.{Change}
 use Rattle.config.specs.Sizes.{isSpare}
 use Rattle.config.specs.declared.Config.{Config}
-use Rattle.core.proofs.Inner.{inner-done, inner-refused, tick-law}
+use Rattle.core.proofs.Inner.{change-place, not-1, plain, row-is, tick-law, whole}
 use Rattle.core.specs.Changes.{changedBy}
 use Rattle.core.specs.Events.{done, innerOf, startCore}
+use Rattle.core.specs.Parts.{changeAt}
 use Rattle.core.specs.Refusals.{refused, rowOf}
-use Rattle.core.specs.State.{full, idle, readyAt, vmAt}
 use Rattle.core.specs.declared.Core.{Core}
+use Rattle.core.specs.declared.Stepped.{Stepped}
 use Rattle.engine.specs.Engine.{Does, Moves, Settles, aboutVm, configOf, coreOf, countsOf, leftBy, refusedAt, standOf}
 use Rattle.engine.specs.declared.Counts.{Counts}
 use Rattle.engine.specs.declared.Moved.{Moved}
 use Rattle.engine.specs.declared.Stand.{Stand}
 use Rattle.event.proofs.Event.{the-type}
-use Rattle.event.specs.Kinds.{isExtra, isStart, ofMaster, ofRunning, subject, wantsReady}
+use Rattle.event.specs.Kinds.{isStart, isTick}
 use Rattle.event.specs.declared.Event.the-variants.{Call, Extra, Fault, Restart, Shutdown, Start, Stop, Tick, Write}
 use Rattle.event.specs.declared.Event.{Event}
-use Rattle.guest.specs.Deliver.{deliver}
-use Rattle.guest.specs.Record.{fresh, isReady, pend, savedAt}
+use Rattle.guest.specs.Record.{fresh, isReady}
 use Rattle.guest.specs.declared.Vm.{Vm}
 use Rattle.logic.specs.Changing.{changeFrom, placeFrom}
-use Rattle.logic.specs.Rows.{rowFrom, strayFault, strayWrite}
+use Rattle.logic.specs.Rows.{rowFrom}
 use Rattle.queue.specs.Entries.{served}
 use Rattle.queue.specs.declared.Queue.{Queue}
 use Rattle.queue.specs.declared.Served.{Served}
@@ -47,47 +47,16 @@ use Rattle.vms.specs.Records.{agedAll, startedAll}
 use Rattle.vms.specs.Tick.{entering, passed, runnerOf, saving, turn, turnBy}
 use Rattle.vms.specs.declared.Turn.{Turn}
 
--- ---- the row of an event
+-- ---- refused, or done
 
--- a Call is ready or not, and is not asked: the VM that an event is about serves for the one that the master names
-row-is : (c : Core) (e : Event)
-    → rowFrom e (c .clock .started) (c .config .count) (c .running) (readyAt c (placeFrom e (c .running))) (c .config .room) (c .queue .len) ≡ rowOf c e
-unfolding rowOf
-row-is c Start = refl
-row-is c (Tick a) = refl
-row-is c (Stop v) = refl
-row-is c (Shutdown v) = refl
-row-is c (Restart v) = refl
-row-is c (Extra v) = refl
-row-is c (Call s n a) = refl
-row-is c (Write o x) = refl
-row-is c (Fault k d) = refl
+module _ (c : Core) (e : Event) (n : ℕ) (r : Stepped) (row : n ≡ rowOf c e) where
+  inner-refused : (n ≡ 0 → ⊥) → r ≡ refused c n → r ≡ innerOf c e
+  unfolding innerOf
+  inner-refused h f = rw (← row, ne-eqb n 0 h) f
 
--- the row from 7 on is never 1: a refusal shows who runs
-not-1 : (a b c d e f g h : Bool)
-    → eqb (pick a 7 (pick b 2 (pick c 3 (pick d 4 (pick e 6 (pick f 5 (pick g 8 (pick h 9 0)))))))) 1 ≡ false
-not-1 true b c d e f g h = refl
-not-1 false true c d e f g h = refl
-not-1 false false true d e f g h = refl
-not-1 false false false true e f g h = refl
-not-1 false false false false true f g h = refl
-not-1 false false false false false true g h = refl
-not-1 false false false false false false true h = refl
-not-1 false false false false false false false true = refl
-not-1 false false false false false false false false = refl
-
-row-not-1 : (c : Core) (e : Event) → eqb (rowOf c e) 1 ≡ false
-unfolding rowOf
-row-not-1 c e =
-    not-1
-    (both (isStart e) (eqb (c .clock .started) 1))
-    (both (not (isStart e)) (not (eqb (c .clock .started) 1)))
-    (both (ofMaster e) (not (ltb (subject e) (c .config .count))))
-    (both (wantsReady e) (not (readyAt c (subject e))))
-    (both (isExtra e) (full c))
-    (both (ofRunning e) (idle c))
-    (strayWrite e)
-    (strayFault e)
+  inner-done : n ≡ 0 → r ≡ done c e → r ≡ innerOf c e
+  unfolding innerOf
+  inner-done h f = rw (← row, eq-eqb n 0 h) f
 
 module _ (g : Config) (standings words : List ℕ) (p : Stand) (e : Event) (i n : ℕ) (ready : Bool) (m : Moved)
     (at : i ≡ placeFrom e (p .running)) (is : ready ≡ isReady (getD (vmsOf standings words) i fresh))
@@ -99,7 +68,7 @@ module _ (g : Config) (standings words : List ℕ) (p : Stand) (e : Event) (i n 
   unfolding refused
   moves-not z h =
       record {
-        same = rw h (inner-refused (coreOf g standings words p) e n (leftBy g standings words (refusedAt standings words p n)) row-here z (rw (ap (λ (x : ℕ). eqb x 1) row-here ∙ row-not-1 (coreOf g standings words p) e)));
+        same = rw h (inner-refused (coreOf g standings words p) e n (leftBy g standings words (refusedAt standings words p n)) row-here z (rw (ne-eqb n 1 (λ (o : n ≡ 1). not-1 (coreOf g standings words p) e (sym row-here ∙ o)))));
       }
 
   pub moves-by : (standings′ words′ : List ℕ) (v : Event) → n ≡ 0 → e ≡ v → Does g standings words standings′ words′ p v m → Moves g standings words standings′ words′ p e m
@@ -108,63 +77,31 @@ module _ (g : Config) (standings words : List ℕ) (p : Stand) (e : Event) (i n 
 
 -- ---- a change of one VM
 
--- it is of the VM that it is given
-call-place : (running : ℕ) (queue : Queue) (noRoom : Bool) (handler v service argument : ℕ) (vm : Vm) → calledFrom running queue noRoom handler v service argument vm .place ≡ v
-unfolding calledFrom
-call-place r q f h v zero m vm = refl
-call-place r q f h v (suc zero) m vm = refl
-call-place r q f h v (suc (suc zero)) m vm = go (leb m 31)
-  where
-    go : (b : Bool) → pick b (deliveringFrom r q v (deliver h (pend m vm))) (failingFrom r q v vm 2 m) .place ≡ v
-    go true = refl
-    go false = refl
-call-place r q f h v (suc (suc (suc zero))) m vm = refl
-call-place r q true h v (suc (suc (suc (suc zero)))) m vm = refl
-call-place r q false h v (suc (suc (suc (suc zero)))) m vm = refl
-call-place r q f h v (suc (suc (suc (suc (suc n))))) m vm = rw (ne-eqb (suc (suc (suc (suc (suc n))))) 0 (λ z. omega arith), ne-eqb (suc (suc (suc (suc (suc n))))) 1 (λ z. omega arith), ne-eqb (suc (suc (suc (suc (suc n))))) 2 (λ z. omega arith), ne-eqb (suc (suc (suc (suc (suc n))))) 3 (λ z. omega arith), ne-eqb (suc (suc (suc (suc (suc n))))) 4 (λ z. omega arith))
-
-change-place : (e : Event) (place : ℕ) (vm : Vm) (running : ℕ) (queue : Queue) (noRoom : Bool) (left entry handler : ℕ)
-    → changeFrom e place vm running queue noRoom left entry handler .place ≡ place
-unfolding changeFrom
-change-place Start i vm r q f l n h = refl
-change-place (Tick a) i vm r q f l n h = refl
-change-place (Stop v) i vm r q f l n h = refl
-change-place (Shutdown v) i vm r q f l n h = refl
-change-place (Restart v) i vm r q f l n h = refl
-change-place (Extra v) i vm r q f l n h = refl
-change-place (Call s m a) i vm r q f l n h = call-place r q f h i s m (savedAt a vm)
-change-place (Write o x) i vm r q f l n h = refl
-change-place (Fault k d) i vm r q f l n h = refl
-
-abbrev changeIn : Core → Event → ℕ → Change
-changeIn c e i = changeFrom e i (vmAt c i) (c .running) (c .queue) (full c) 0 (getD (c .config .entries) i 0) (getD (c .config .handlers) i 0)
-
-change-is : (c : Core) (e : Event) → aboutVm e ≡ true → changedBy c (changeIn c e (placeFrom e (c .running))) ≡ done c e
-unfolding changeFrom done
-change-is c Start h = absurd (let z : _≡_ {A = ℕ} 0 1 = cc in omega arith)
-change-is c (Tick a) h = absurd (let z : _≡_ {A = ℕ} 0 1 = cc in omega arith)
-change-is c (Stop v) h = refl
-change-is c (Shutdown v) h = refl
-change-is c (Restart v) h = refl
-change-is c (Extra v) h = refl
-change-is c (Call s n a) h = refl
-change-is c (Write o x) h = refl
-change-is c (Fault k d) h = refl
+about-other : (e : Event) → aboutVm e ≡ true → (isTick e ≡ false) × (isStart e ≡ false)
+about-other Start h = absurd (let z : _≡_ {A = ℕ} 0 1 = cc in omega arith)
+about-other (Tick a) h = absurd (let z : _≡_ {A = ℕ} 0 1 = cc in omega arith)
+about-other (Stop v) h = (refl, refl)
+about-other (Shutdown v) h = (refl, refl)
+about-other (Restart v) h = (refl, refl)
+about-other (Extra v) h = (refl, refl)
+about-other (Call s n a) h = (refl, refl)
+about-other (Write o x) h = (refl, refl)
+about-other (Fault k d) h = (refl, refl)
 
 pub change-does : (g : Config) (standings words standings′ words′ : List ℕ) (p : Stand) (e : Event) (m : Moved) (i n h : ℕ) (v : Vm) (d : Change)
     → aboutVm e ≡ true → i ≡ placeFrom e (p .running) → v ≡ getD (vmsOf standings words) i fresh → n ≡ getD (g .entries) i 0 → h ≡ getD (g .handlers) i 0
     → d ≡ changeFrom e i v (p .running) (p .queue) (leb (g .room) (p .queue .len)) 0 n h
     → Settles standings words standings′ words′ (p .clock) i d m → Does g standings words standings′ words′ p e m
 change-does g standings words standings′ words′ p e m i n h v d about at hv hn hh hd w =
-    record { same = here ∙ ap (λ (k : ℕ). changedBy (coreOf g standings words p) (changeIn (coreOf g standings words p) e k)) at ∙ change-is (coreOf g standings words p) e about }
+    record { same = here ∙ ap (λ (k : ℕ). changedBy (coreOf g standings words p) (changeAt (coreOf g standings words p) e k)) at ∙ (let o = about-other e about in plain (coreOf g standings words p) e (o .0) (o .1)) }
   where
-    dd : d ≡ changeIn (coreOf g standings words p) e i
+    dd : d ≡ changeAt (coreOf g standings words p) e i
     dd = hd ∙ rw (hv, hn, hh)
 
     place : d .place ≡ i
     place = ap (λ (y : Change). y .place) hd ∙ change-place e i _ _ _ _ _ _ _
 
-    here : leftBy g standings′ words′ m ≡ changedBy (coreOf g standings words p) (changeIn (coreOf g standings words p) e i)
+    here : leftBy g standings′ words′ m ≡ changedBy (coreOf g standings words p) (changeAt (coreOf g standings words p) e i)
     here = rw (w .moved, w .records) (rw (← dd, place))
 
 -- ---- Start
@@ -204,6 +141,10 @@ turn-total running at count owner head left who x h handlers v l m w b vm d q lo
     past : m ≡ passed running at count v
     past = hm ∙ ap (agedAll count) hl
 
+tick-config : (g : Config) (standings words : List ℕ) (p : Stand) (at : ℕ) → done (coreOf g standings words p) (Tick at) .core .config ≡ g
+unfolding done
+tick-config g standings words p at = refl
+
 pub tick-does : (g : Config) (standings words saved aged standings′ words′ : List ℕ) (p : Stand) (m : Moved) (at owner who h : ℕ) (k : Clock) (s : Served) (b : Bool) (vm : Vm) (d : Change)
     → vmsOf standings saved ≡ saving (p .running) at (vmsOf standings words) → vmsOf standings aged ≡ agedAll (g .count) (vmsOf standings saved)
     → k ≡ nextClock (g .slots) (g .durations) (p .clock) → owner ≡ getD (g .owners) (k .slot) 0
@@ -213,7 +154,7 @@ pub tick-does : (g : Config) (standings words saved aged standings′ words′ :
     → d ≡ tickingFrom (s .queue) who vm (k .left) h
     → Settles standings aged standings′ words′ k who d m → Does g standings words standings′ words′ p (Tick at) m
 tick-does g standings words saved aged standings′ words′ p m at owner who h k s b vm d hl hm hk ho hs hb hwho hvm hh hd w =
-    record { same = here ∙ tick-law (coreOf g standings words p) at owner k s t noNotice hk ho hs turned refl }
+    record { same = here ∙ whole (done (coreOf g standings words p) (Tick at)) g _ (tick-config g standings words p at) (tick-law (coreOf g standings words p) at owner k s t hk ho hs turned) }
   where
     x : ℕ
     x = getD (vmsOf standings′ words′) who fresh .address
