@@ -1,6 +1,6 @@
 -- An event over a bank is the event: refused, a tick, a start, a change of one VM.
 use Prim.Native.Nat.{ℕ, _≤_}
-use borrow.Author.Tests.{ltb-false, ne-eqb}
+use borrow.Author.Tests.{eq-eqb, ltb-false, ne-eqb}
 use denote.Enum.Declared.{tagOf}
 use lib.Dec.{eqb, leb, ltb}
 use lib.ListN.{List·getD-eq-default, getD, length, set}
