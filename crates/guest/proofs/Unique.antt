@@ -11,8 +11,6 @@ use Rattle.guest.proofs.Vm.entered_if.Kinds as entered-if-kinds
 use Rattle.guest.proofs.Vm.entered_if.Reads as entered-if-reads
 use Rattle.guest.proofs.Vm.fresh.Kinds as fresh-kinds
 use Rattle.guest.proofs.Vm.fresh.Reads as fresh-reads
-use Rattle.guest.proofs.Vm.has_standing.Kinds as has-standing-kinds
-use Rattle.guest.proofs.Vm.has_standing.Reads as has-standing-reads
 use Rattle.guest.proofs.Vm.is_field.Kinds as is-field-kinds
 use Rattle.guest.proofs.Vm.is_field.Reads as is-field-reads
 use Rattle.guest.proofs.Vm.is_fresh.Kinds as is-fresh-kinds
@@ -46,9 +44,6 @@ guest-started-one κs a x y s t p q = p ∙ sym q
 
 pub guest-is-ready-one : OneAnswer 0 is-ready-kinds.ps is-ready-kinds.r is-ready-reads.Post
 guest-is-ready-one κs a x y s t p q = p ∙ sym q
-
-pub guest-has-standing-one : OneAnswer 0 has-standing-kinds.ps has-standing-kinds.r has-standing-reads.Post
-guest-has-standing-one κs a x y s t p q = p ∙ sym q
 
 pub guest-is-fresh-one : OneAnswer 0 is-fresh-kinds.ps is-fresh-kinds.r is-fresh-reads.Post
 guest-is-fresh-one κs a x y s t p q = p ∙ sym q

@@ -6,7 +6,7 @@ ghost use Prim.Native.Nat.{_<_};
 ghost use mathlib.Core.Path.{_≡_};
 ghost use Rattle.basis.specs.Choice.{pick};
 ghost use Rattle.guest.specs.Deliver.{backFrom, deliver, enter, interrupt, quiet, shown};
-ghost use Rattle.guest.specs.Record.{blank, endedAs, fresh, isFresh, isReady, older, pend, savedAt, standingKnown, startedAt};
+ghost use Rattle.guest.specs.Record.{blank, endedAs, fresh, isFresh, isReady, older, pend, savedAt, startedAt};
 ghost use Rattle.guest.specs.Write.{isField, stored, write};
 
 // A pseudo-interrupt's number, or none.
@@ -94,13 +94,6 @@ impl Vm {
         ensures { λ r. ⌜ r ≡ isReady self ⌝ }
     {
         self.standing == Vm::READY
-    }
-
-    // W12, of one record.
-    pub fn has_standing(self) -> bool
-        ensures { λ r. ⌜ r ≡ standingKnown self ⌝ }
-    {
-        self.standing <= Vm::LAST
     }
 
     // W2, of one record: its numbers joined as bits, in the reverse of the definition's order.

@@ -101,9 +101,6 @@ eight (a ∷ b ∷ c ∷ d ∷ e ∷ f ∷ g ∷ h ∷ i ∷ l) q = absurd (omeg
 pub vm-past : (l : List Vm) (i : ℕ) (v : Vm) → length l ≡ 8 → 8 ≤ i → v ≡ fresh → v ≡ getD l i fresh
 vm-past l i v e h f = f ∙ sym (List·getD-eq-default l fresh (omega arith))
 
-pub set-past : (l : List Vm) (i : ℕ) (v : Vm) → length l ≡ 8 → 8 ≤ i → l ≡ set l i v
-set-past l i v e h = sym (set-out l i v (omega arith))
-
 -- a number below 8 is itself modulo 8
 mod-8 : (i : ℕ) → ltb i 8 ≡ true → i % 8 ≡ i
 mod-8 i e = let h = ltb-true i 8 e in mod-eq-of-lt h

@@ -4,7 +4,7 @@ use guest::Found;
 use guest::Vm;
 ghost use Prim.Native.Nat.{min};
 ghost use lib.Dec.{ltb};
-ghost use lib.ListN.{getD, set};
+ghost use lib.ListN.{getD};
 ghost use mathlib.Core.Path.{_≡_};
 ghost use Rattle.basis.specs.Choice.{either, pick};
 ghost use Rattle.basis.specs.Nobody.{nobody};
@@ -27,19 +27,6 @@ pub fn vm_at(vms: [Vm; 8], i: u8) -> Vm
 {
     let k = i as usize;
     if k < 8 { vms[k] } else { Vm::fresh() }
-}
-
-// With another record i; past the last nothing changes.
-pub fn with_vm(vms: [Vm; 8], i: u8, v: Vm) -> [Vm; 8]
-    ensures { λ r. ⌜ r ≡ set vms i v ⌝ }
-{
-    let k = i as usize;
-    let mut w = vms;
-    if k < 8 {
-        w[k] = v;
-        return w;
-    }
-    w
 }
 
 // The standings, as numbers.
