@@ -1,3 +1,5 @@
 pub mod Walk
+pub mod Stores
 pub mod Lent
-pub mod Unique
+pub mod Host
+
