@@ -1,5 +1,6 @@
 pub mod Walk
 pub mod Stores
+pub mod Checked
 pub mod Lent
 pub mod Host
 
