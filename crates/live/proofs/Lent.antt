@@ -20,6 +20,7 @@ use Rattle.core.specs.declared.Stepped.{Stepped}
 use Rattle.guest.proofs.Vm as M
 use Rattle.live.proofs.Input as N
 use Rattle.live.proofs.Input.Laws as N′
+use Rattle.live.proofs.Local.{Together}
 use Rattle.live.proofs.Stores.{Parts, State}
 use Rattle.live.proofs.Walk.{Data, Outcome, struct}
 use Rattle.queue.proofs.Queue as Q
@@ -48,6 +49,17 @@ stepped = record {
   typed = λ 𝓤 H A W s v is. LL.lawful S.the-type S′.the-laws 𝓤 H A W .typed s (v ∷ []) is .0;
   after-is = λ s vs is. LL.owed S.the-type S′.the-laws s vs is .0;
   answer-is = λ s vs is. LL.owed S.the-type S′.the-laws s vs is .1 .0;
+}
+
+-- what a step gives, put together
+abbrev pub outcome : Data
+outcome = struct S.the-type S′.the-laws S′.the-plain
+
+abbrev pub joined : Together core answer outcome
+joined = record {
+  together = λ c a. record { core = c; answer = a };
+  together-val = λ c a. refl;
+  together-is = λ c a is js. LL.owes S.the-type S′.the-laws (record { core = c; answer = a }) (is, (js, tt));
 }
 
 -- the core by its five parts

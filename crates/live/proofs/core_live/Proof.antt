@@ -15,9 +15,10 @@ use Rattle.core.proofs.Core.sound.Symbol.{name as #test}
 use Rattle.core.specs.Sound.{sound}
 use Rattle.core.specs.declared.Core.{Core}
 use Rattle.core.specs.declared.Stepped.{Stepped}
-use Rattle.live.proofs.Checked.{Barring, Inner, Testing, checked-meets}
+use Rattle.live.proofs.Checked.{Barring, Testing, checked-meets}
 use Rattle.live.proofs.Host.{host-sound, host-unsound}
 use Rattle.live.proofs.Lent.{answer, core, input}
+use Rattle.live.proofs.Walk.{Leaving}
 use Rattle.live.proofs.barred.Met as bar-thm
 use Rattle.live.proofs.barred.Symbol as bar-def
 use Rattle.live.proofs.barred.Symbol.{name as #barred}
@@ -48,5 +49,5 @@ core-live-spec 𝓤 H 𝓜 𝓖 𝓡 =
     (λ κs a off. factI 𝓤 _ (emp 𝓤) (host-unsound (now (a .0)) (a .1 .0) off))
     (tablesOf 𝓤 H 𝓜 (tables 𝓤 H 𝓜 𝓡 code.env)) #test #inner #barred
     (cited 𝓤 H (Testing core sound 𝓤 H (𝓖 .A)) 𝓜 𝓡 code.env #test test-def.routine code.calls-core·Core·sound (test-thm.met 𝓤 H 𝓜 𝓖 𝓡))
-    (cited 𝓤 H (Inner core input answer sound (quietly 1 nobody 0) after ans 𝓤 H (𝓖 .A)) 𝓜 𝓡 code.env #inner inner-def.routine code.calls-live·core-inner (inner-thm.met 𝓤 H 𝓜 𝓖 𝓡))
+    (cited 𝓤 H (Leaving core input answer after ans 𝓤 H (𝓖 .A)) 𝓜 𝓡 code.env #inner inner-def.routine code.calls-live·core-inner (inner-thm.met 𝓤 H 𝓜 𝓖 𝓡))
     (cited 𝓤 H (Barring answer (quietly 1 nobody 0) 𝓤 H (𝓖 .A)) 𝓜 𝓡 code.env #barred bar-def.routine code.calls-live·barred (bar-thm.met 𝓤 H 𝓜 𝓖 𝓡)))
