@@ -179,7 +179,7 @@ module _ (S E R : Data) (test : S .D → Bool) (bar : R .D) (after : S .D → E 
           move ! (13 ∷ 14 ∷ []) $ free1 ! $ move ! (11 ∷ 12 ∷ []) $ free1 ! $ move ! (9 ∷ 10 ∷ []) $ free1 ! $ move ! (7 ∷ 8 ∷ []) $ free1 ! $ move ! (5 ∷ 6 ∷ []) $ free1 ! $ move ! (3 ∷ 4 ∷ []) $ free1 ! $ free0 ! $
           keep ! (0 ∷ 2 ∷ []) $ by ! (exits r (after h e) (subst (λ (y : R .D). Holds S E R 𝓤 says (κ, tt) given-x y (after h e)) (sym answers) (passes (κ, tt) given-x (is-true (test h) t same on))) ge (given-is R r v′ gv)))))))
           (λ off. skips ! $ exec ! C Λ ((R .mir, l₀) ∷ (tyRef (named 0) mut (pointee (S .written)), l₁) ∷ (E .mir, l₂) ∷ (tyBool, l₃) ∷ (S .mir, l₄) ∷ (tyRef erased mut (pointee (S .written)), l₅) ∷ []) (rest #barred)
-              (atRet ((R .mir, l₀) ∷ (tyRef (named 0) mut (pointee (S .written)), l₁) ∷ (E .mir, l₂) ∷ (tyBool, l₃) ∷ (S .mir, l₄) ∷ (tyRef erased mut (pointee (S .written)), l₅) ∷ []) Post) $
+          (atRet ((R .mir, l₀) ∷ (tyRef (named 0) mut (pointee (S .written)), l₁) ∷ (E .mir, l₂) ∷ (tyBool, l₃) ∷ (S .mir, l₄) ∷ (tyRef erased mut (pointee (S .written)), l₅) ∷ []) Post) $
           use0 W (raw (Barring R bar 𝓤 H A .pre (to-bar R bar 𝓤 H A))) (goes-bar R bar 𝓤 H A W) $
           calls-at ! fm (Barring R bar 𝓤 H A) bar-known (to-bar R bar 𝓤 H A) (no-more !) (λ v′.
           use1 W (later (some (λ (r : R .D). (‵ ftrue ⊛ ‵ (R .own r (v′ ∷ []))) ⊛ raw (ensured 𝓤 H A (bars R bar) (bar-clauses R bar 𝓤) tt tt tt r)))) (id⊢ 𝓤 _) $ await ! tt $ pick ! (λ r.

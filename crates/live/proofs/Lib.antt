@@ -4,4 +4,4 @@ pub mod Checked
 pub mod Local
 pub mod Lent
 pub mod Host
-
+pub mod Unique
