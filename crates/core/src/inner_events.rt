@@ -133,6 +133,7 @@ impl Core {
         let running = self.running;
         let clock = self.clock;
         let queue = made_again(self.queue);
+        let room = config.room;
         let mut w = self.vms;
         let place = logic::place_of(e, running);
         let i = (place % 8) as usize;
@@ -145,10 +146,10 @@ impl Core {
             config.count,
             running,
             ready,
-            config.room,
+            room,
             queue.len,
         );
-        let full = config.room <= queue.len;
+        let full = room <= queue.len;
         let entry = places::word_at(&entries, place as usize);
         let handler = places::word_at(&handlers, place as usize);
         let d = change_unless(n, e, place, vm, running, queue, full, entry, handler);

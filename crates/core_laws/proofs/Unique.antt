@@ -1,6 +1,8 @@
 -- No second answer fits (C2): each public function of the core.
 use mathlib.Core.Path.{sym, _∙_}
 use Rattle.basis.proofs.Unique.{OneAnswer}
+use Rattle.core.proofs.Core.after.Kinds as core-after-kinds
+use Rattle.core.proofs.Core.after.Reads as core-after-reads
 use Rattle.core.proofs.Core.call.Kinds as core-call-kinds
 use Rattle.core.proofs.Core.call.Reads as core-call-reads
 use Rattle.core.proofs.Core.extra.Kinds as core-extra-kinds
@@ -11,6 +13,8 @@ use Rattle.core.proofs.Core.fresh.Kinds as core-fresh-kinds
 use Rattle.core.proofs.Core.fresh.Reads as core-fresh-reads
 use Rattle.core.proofs.Core.inner.Kinds as core-inner-kinds
 use Rattle.core.proofs.Core.inner.Reads as core-inner-reads
+use Rattle.core.proofs.Core.kept.Kinds as core-kept-kinds
+use Rattle.core.proofs.Core.kept.Reads as core-kept-reads
 use Rattle.core.proofs.Core.refused.Kinds as core-refused-kinds
 use Rattle.core.proofs.Core.refused.Reads as core-refused-reads
 use Rattle.core.proofs.Core.restart.Kinds as core-restart-kinds
@@ -71,3 +75,9 @@ core-step-one κs a x y s t p q = p ∙ sym q
 
 pub core-inner-one : OneAnswer 0 core-inner-kinds.ps core-inner-kinds.r core-inner-reads.Post
 core-inner-one κs a x y s t p q = p ∙ sym q
+
+pub core-after-one : OneAnswer 0 core-after-kinds.ps core-after-kinds.r core-after-reads.Post
+core-after-one κs a x y s t p q = p ∙ sym q
+
+pub core-kept-one : OneAnswer 0 core-kept-kinds.ps core-kept-kinds.r core-kept-reads.Post
+core-kept-one κs a x y s t p q = p ∙ sym q

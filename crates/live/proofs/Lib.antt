@@ -1,3 +1,7 @@
 pub mod Walk
+pub mod Stores
+pub mod Checked
+pub mod Local
 pub mod Lent
+pub mod Host
 pub mod Unique

@@ -15,16 +15,13 @@ use prog.Wp.{Heap}
 use Rattle.basis.proofs.Unique.{OneAnswer}
 use Rattle.live.proofs.core_fresh.Kinds as fresh-kinds
 use Rattle.live.proofs.core_fresh.Reads as fresh-reads
+use Rattle.live.proofs.core_inner as inner
 use Rattle.live.proofs.core_live as live
-use Rattle.live.proofs.core_step.Kinds as step-kinds
-use Rattle.live.proofs.core_step.Reads as step-reads
+use Rattle.live.proofs.core_step as step
 use Rattle.live.proofs.happen as happen
 
 pub core-fresh-one : OneAnswer 1 fresh-kinds.ps fresh-kinds.r fresh-reads.Post
 core-fresh-one κs a x y s t p q = p ∙ sym q
-
-pub core-step-one : OneAnswer 0 step-kinds.ps step-kinds.r step-reads.Post
-core-step-one κs a x y s t p q = p ∙ sym q
 
 module _ {M : Type 1} (𝓤 : URA M) (H : Heap 𝓤) (A : Atoms 𝓤) (mem : Memory → SProp 𝓤) (run : Routine → Fun 𝓤) where
   -- from two facts a third
@@ -40,3 +37,11 @@ module _ {M : Type 1} (𝓤 : URA M) (H : Heap 𝓤) (A : Atoms 𝓤) (mem : Mem
   pub core-live-one : (κs : Lfts 1) (a : Args live.signature κs) (x y : Res live.signature κs) (s t : AtExit live.ended κs)
       → ent 𝓤 (sep 𝓤 (live.clauses 𝓤 H A mem run κs a .ensures tt x s) (live.clauses 𝓤 H A mem run κs a .ensures tt y t)) (fact 𝓤 ((x ≡ y) × (now (s .0) ≡ now (t .0))))
   core-live-one κs a x y s t = of-both (λ p q. (p .1 ∙ sym (q .1), p .0 ∙ sym (q .0)))
+
+  pub core-inner-one : (κs : Lfts 1) (a : Args inner.signature κs) (x y : Res inner.signature κs) (s t : AtExit inner.ended κs)
+      → ent 𝓤 (sep 𝓤 (inner.clauses 𝓤 H A mem run κs a .ensures tt x s) (inner.clauses 𝓤 H A mem run κs a .ensures tt y t)) (fact 𝓤 ((x ≡ y) × (now (s .0) ≡ now (t .0))))
+  core-inner-one κs a x y s t = of-both (λ p q. (p .1 ∙ sym (q .1), p .0 ∙ sym (q .0)))
+
+  pub core-step-one : (κs : Lfts 0) (a : Args step.signature κs) (x y : Res step.signature κs) (s t : AtExit step.ended κs)
+      → ent 𝓤 (sep 𝓤 (step.clauses 𝓤 H A mem run κs a .ensures tt x s) (step.clauses 𝓤 H A mem run κs a .ensures tt y t)) (fact 𝓤 (x ≡ y))
+  core-step-one κs a x y s t = of-both (λ p q. p ∙ sym q)

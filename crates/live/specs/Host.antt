@@ -2,7 +2,7 @@
 use Prim.Native.Nat.{ℕ}
 use mathlib.Core.List.{List}
 use Rattle.basis.specs.Choice.{unless}
-use Rattle.core.specs.Events.{stepOf}
+use Rattle.core.specs.Events.{innerOf, stepOf}
 use Rattle.core.specs.Refusals.{refused}
 use Rattle.core.specs.Sound.{sound}
 use Rattle.core.specs.State.{freshCore}
@@ -27,3 +27,11 @@ stepFor c Unknown = refused c (unless (sound c) 1 10)
 -- an input on a state
 abbrev pub stepBy : Core → Input → Stepped
 stepBy c e = stepFor c (askedBy (e .kind) (e .byte) (e .word) (e .next))
+
+-- the same on a state that is known to be sound
+unfoldable pub innerFor : Core → Asked → Stepped
+innerFor c (Known e) = innerOf c e
+innerFor c Unknown = refused c 10
+
+abbrev pub innerBy : Core → Input → Stepped
+innerBy c e = innerFor c (askedBy (e .kind) (e .byte) (e .word) (e .next))

@@ -1,15 +1,16 @@
 // The live core (T9, K6): one core that is lent and changed where it stands, and what a host in C or Rust calls.
 use change::Answer;
+use core::After;
 use core::Core;
 use core::Stepped;
 use event::Asked;
 use event::Event;
 ghost use mathlib.Core.Path.{_≡_};
-ghost use Rattle.basis.specs.Choice.{unless};
+ghost use Rattle.basis.specs.Nobody.{nobody};
+ghost use Rattle.change.specs.Answers.{quietly};
 ghost use Rattle.core.specs.Events.{stepOf};
-ghost use Rattle.core.specs.Refusals.{refused};
-ghost use Rattle.core.specs.Sound.{sound};
-ghost use Rattle.live.specs.Host.{begunFrom, stepBy};
+ghost use Rattle.core.specs.Parts.{partsOf};
+ghost use Rattle.live.specs.Host.{begunFrom, innerBy, stepBy};
 
 // An event as plain numbers: the kind of its record (E2 to E10), then what its body holds. What a kind does not have is not read.
 #[repr(C)]
@@ -57,30 +58,52 @@ pub extern "C" fn core_fresh(s: &[u8]) -> Begun
 pub extern "C" fn core_step(c: Core, e: Input) -> Stepped
     ensures { λ r. ⌜ r ≡ stepBy c e ⌝ }
 {
-    let a = Event::asked(e.kind, e.byte, e.word, e.next);
-    match a {
-        Asked::Known(event) => Core::step(c, event),
-        Asked::Unknown => unknown(c),
+    let mut after = c;
+    let answer = core_live(&mut after, e);
+    Stepped {
+        core: after,
+        answer: answer,
     }
 }
 
-// What is no event is refused: with 10, as in a log, or with 1 where the state is not sound.
-fn unknown(c: Core) -> Stepped
-    ensures { λ r. ⌜ r ≡ refused c (unless (sound c) 1 10) ⌝ }
-{
-    if c.sound() {
-        c.refused(10)
-    } else {
-        c.refused(1)
-    }
-}
-
-// The live layer for a host: an event on the core that it lends.
+// The live layer for a host: an event on the core that it lends. One that is not sound is refused with 1.
 #[no_mangle]
 pub extern "C" fn core_live(c: &mut Core, e: Input) -> Answer
     ensures { λ r. ⌜ (now (c .exit) ≡ stepBy (now (c .entry)) e .core) × (r ≡ stepBy (now (c .entry)) e .answer) ⌝ }
 {
-    let s = core_step(*c, e);
-    *c = s.core;
+    if Core::sound(*c) {
+        return core_inner(c, e);
+    }
+    barred()
+}
+
+// The same for a host that knows its core to be sound, since only these functions wrote it: nothing is tested.
+#[no_mangle]
+pub extern "C" fn core_inner(c: &mut Core, e: Input) -> Answer
+    ensures { λ r. ⌜ (now (c .exit) ≡ innerBy (now (c .entry)) e .core) × (r ≡ innerBy (now (c .entry)) e .answer) ⌝ }
+{
+    let s = inner_after(*c, e);
+    c.vms = s.vms;
+    c.clock = s.clock;
+    c.running = s.running;
+    c.queue = s.queue;
     s.answer
+}
+
+// What is no event is refused with 10, as in a log.
+fn inner_after(c: Core, e: Input) -> After
+    ensures { λ r. ⌜ r ≡ partsOf (innerBy c e) ⌝ }
+{
+    let a = Event::asked(e.kind, e.byte, e.word, e.next);
+    match a {
+        Asked::Known(event) => c.after(event),
+        Asked::Unknown => c.kept(10),
+    }
+}
+
+// The answer of a state that is not sound (R3).
+fn barred() -> Answer
+    ensures { λ r. ⌜ r ≡ quietly 1 nobody 0 ⌝ }
+{
+    Answer::quiet(1, Answer::NOBODY, 0)
 }

@@ -1,31 +1,32 @@
--- The event that the numbers are, else the refusal.
-use borrow.Author.Needs.{needs}
+-- `core_live` on a local: the walk, at its contract.
+use contract.Running.{givenOf, tables, tablesOf}
+use denote.Triple.Spec.{tripleOf}
+use denote.Triple.Table.{entered, cited}
+use Rattle.change.specs.declared.Answer.{Answer}
+use Rattle.core.specs.declared.Core.{Core}
+use Rattle.live.proofs.Lent.{answer, core, input, joined, outcome}
+use Rattle.live.proofs.Local.{local-meets}
+use Rattle.live.proofs.Walk.{Leaving}
+use Rattle.live.proofs.core_live.Met as live-thm
+use Rattle.live.proofs.core_live.Symbol as live-def
+use Rattle.live.proofs.core_live.Symbol.{name as #live}
+use Rattle.live.proofs.core_step as own
+use Rattle.live.proofs.core_step.Code as code
+use Rattle.live.proofs.core_step.Key.{name as #own}
 use Rattle.live.proofs.core_step.Statement.{statement}
-use Rattle.live.proofs.core_step.Tie as tie
-use Rattle.live.specs.Host.{stepFor}
+use Rattle.live.specs.Host.{stepBy}
+use Rattle.live.specs.declared.Input.{Input}
 
-asked-requires : tie.Need-asked-requires
-asked-requires c κs = search needs
+abbrev after : Core → Input → Core
+after c e = stepBy c e .core
 
-enum-known-a : tie.Need-enum-known-a
-enum-known-a c = search needs
-
-step-requires : tie.Need-step-requires
-step-requires c κs = search needs
-
-enum-told : tie.Need-enum-told
-enum-told c = search needs
-
-unknown-requires : tie.Need-unknown-requires
-unknown-requires c κs = search needs
-
-returns : tie.Need-returns
-unfolding stepFor
-returns c = rw (c .step .ensures, ← c .before .before .before .before .asked .ensures, c .before .before .a .given .1)
-
-returns-2 : tie.Need-returns-2
-unfolding stepFor
-returns-2 c = rw (c .unknown .ensures, ← c .before .before .before .asked .ensures, c .before .enum-told .given .1)
+abbrev ans : Core → Input → Answer
+ans c e = stepBy c e .answer
 
 pub core-step-spec : {M : Type 1} → statement M
-core-step-spec = tie.close (tie.spec asked-requires enum-known-a step-requires enum-told unknown-requires returns returns-2)
+unfolding code.routine tablesOf
+core-step-spec 𝓤 H 𝓜 𝓖 𝓡 =
+    entered 𝓤 H (tripleOf 𝓤 H (𝓖 .A) own.signature (own.spec 𝓤 H (𝓖 .A) (𝓜 .mem) (𝓡 .run)))
+    (tables 𝓤 H 𝓜 𝓡 code.env .C) (tables 𝓤 H 𝓜 𝓡 code.env .Λ) #own code.function (code.unfolded 𝓤 H 𝓜 𝓡)
+    (local-meets core input answer outcome joined after ans 𝓤 H (𝓖 .A) (givenOf 𝓤 H 𝓜 𝓖) (tablesOf 𝓤 H 𝓜 (tables 𝓤 H 𝓜 𝓡 code.env)) #live
+    (cited 𝓤 H (Leaving core input answer after ans 𝓤 H (𝓖 .A)) 𝓜 𝓡 code.env #live live-def.routine code.calls-live·core-live (live-thm.met 𝓤 H 𝓜 𝓖 𝓡)))

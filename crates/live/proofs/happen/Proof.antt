@@ -13,7 +13,7 @@ use Rattle.core.specs.declared.Stepped.{Stepped}
 use Rattle.event.proofs.Event as E
 use Rattle.event.proofs.Event.Laws as E′
 use Rattle.live.proofs.Lent.{answer, core, stepped}
-use Rattle.live.proofs.Walk.{Data, Stepping, enum, lent-meets}
+use Rattle.live.proofs.Walk.{Data, Stepping, enum, given, lent-meets}
 use Rattle.live.proofs.happen as own
 use Rattle.live.proofs.happen.Code as code
 use Rattle.live.proofs.happen.Key.{name as #own}
@@ -31,4 +31,4 @@ happen-spec 𝓤 H 𝓜 𝓖 𝓡 =
     (λ κs a r end. own.clauses 𝓤 H (𝓖 .A) (𝓜 .mem) (𝓡 .run) κs a .ensures tt r end)
     (λ κs a s same. factI 𝓤 _ (emp 𝓤) (ap (λ (t : Stepped). t .core) same, ap (λ (t : Stepped). t .answer) same))
     (tablesOf 𝓤 H 𝓜 (tables 𝓤 H 𝓜 𝓡 code.env)) #step
-    (cited 𝓤 H (Stepping core event answer stepped stepOf 𝓤 H (𝓖 .A)) 𝓜 𝓡 code.env #step step-def.routine code.calls-core·Core·step (step-thm.met 𝓤 H 𝓜 𝓖 𝓡)))
+    (cited 𝓤 H (Stepping core event (given core event answer stepped stepOf) stepOf 𝓤 H (𝓖 .A)) 𝓜 𝓡 code.env #step step-def.routine code.calls-core·Core·step (step-thm.met 𝓤 H 𝓜 𝓖 𝓡)))
