@@ -1,5 +1,5 @@
 -- Laws of the walks over all places, which join faults with no exit, and of the owners' numbers joined as bits.
-use Prim.Native.Nat.{ℕ, _%_, _*_, _+_, _-_, _<_, _^_, _≤_}
+use Prim.Native.Nat.{min, ℕ, _%_, _*_, _+_, _-_, _<_, _^_, _≤_}
 use borrow.Author.Tests.{eq-eqb, eqb-true, le-leb, le-ltb, lt-leb, lt-ltb, ltb-true, ne-eqb}
 use lib.Bits.{and-mask, bitAnd, bitOr}
 use lib.Dec.{eqb, leb, ltb}
@@ -13,7 +13,7 @@ use native.Mathlib.Decide.{decLt}
 use native.Mathlib.Nat.{mod-eq-of-lt, mod-lt}
 use native.Mathlib.Omega.{arith}
 use Rattle.basis.proofs.Bits.{bit-or, bit-zero, bitAt, low-full, power-bit}
-use Rattle.basis.proofs.Laws.{both-left, both-of, both-right, either-is, every-below, every-is, every-of, fault-more, some-below, some-more}
+use Rattle.basis.proofs.Laws.{both-left, both-of, both-right, either-is, every-below, every-is, every-of, fault-more, some-below, some-is, some-more, some-of}
 use Rattle.basis.specs.Choice.{both, either, pick}
 use Rattle.basis.specs.Count.{every, some}
 use Rattle.basis.specs.Nobody.{nobody}
@@ -126,6 +126,14 @@ served-law q seen all b count k slots h f g l e =
     let c : count % 64 ≡ count = mod-eq-of-lt (omega arith) in
     let m : all ≡ 2 ^ count - 1 = rw (g, f, c) in
     rw (m, and-mask seen count) (low-full seen count ∙ every-below _ _ count (λ v i. rw (← e) (h v)))
+
+-- what the first slots name, all of them name
+pub served-more : (q : ℕ → ℕ) (count first slots : ℕ) (r : Bool) → first ≡ min slots 16 → r ≡ every (λ v. some (λ j. eqb (q j) v) first) count → r ≡ true
+    → true ≡ every (λ v. some (λ j. eqb (q j) v) slots) count
+served-more q count first slots r l e t = sym (every-of (λ v. some (λ j. eqb (q j) v) slots) count (λ v i. wider v (every-is (λ w. some (λ j. eqb (q j) w) first) count (sym e ∙ t) v i)))
+  where
+    wider : (v : ℕ) → some (λ j. eqb (q j) v) first ≡ true → some (λ j. eqb (q j) v) slots ≡ true
+    wider v h = (let x = some-is (λ j. eqb (q j) v) first h in some-of (λ j. eqb (q j) v) slots (x .0) (omega (arith, x .1)) (x .2))
 
 -- ---- S4 to S7 together
 

@@ -1,7 +1,7 @@
 // The rules about the places of a configuration: S4 to S7. A loop leaves early only where it searches, so that the others compile to vector code.
 use crate::Config;
 use basis::tests::both;
-ghost use Prim.Native.Nat.{_%_, _^_, _≤_};
+ghost use Prim.Native.Nat.{min, _%_, _^_, _≤_};
 ghost use lib.Bits.{bitOr};
 ghost use lib.Dec.{eqb, leb, ltb};
 ghost use lib.ListN.{getD};
@@ -168,8 +168,26 @@ fn pick16(on: bool, a: u16, b: u16) -> u16
     if on { a } else { b }
 }
 
-// S6, where S5 holds too: the numbers that are named, modulo 64, joined as bits with no exit.
+// S6, where S5 holds too. Mostly the first sixteen slots name every VM, and the others need no look.
 fn vms_served(count: u8, slots: u8, owners: &[u8; 64]) -> bool
+    requires { ⌜ (count ≤ 8) × (slots ≤ 64) ⌝ }
+    ensures { λ r. ⌜ r ≡ every (λ v. some (λ k. eqb (getD (now (owners .entry)) k 0 % 64) v) slots) count ⌝ }
+{
+    if served_by(count, first_of(slots), owners) {
+        true
+    } else {
+        served_by(count, slots, owners)
+    }
+}
+
+fn first_of(slots: u8) -> u8
+    ensures { λ r. ⌜ r ≡ min slots 16 ⌝ }
+{
+    if slots < 16 { slots } else { 16 }
+}
+
+// The numbers that the first slots name, modulo 64, joined as bits with no exit.
+fn served_by(count: u8, slots: u8, owners: &[u8; 64]) -> bool
     requires { ⌜ (count ≤ 8) × (slots ≤ 64) ⌝ }
     ensures { λ r. ⌜ r ≡ every (λ v. some (λ k. eqb (getD (now (owners .entry)) k 0 % 64) v) slots) count ⌝ }
 {

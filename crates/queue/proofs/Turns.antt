@@ -11,7 +11,7 @@ use mathlib.Core.Path.{ap, refl, sym, _∙_, _≡_}
 use native.Mathlib.Decide.{decLt}
 use native.Mathlib.Numerals.{add-one}
 use native.Mathlib.Omega.{arith}
-use Rattle.basis.proofs.Laws.{every-more, false-true, or-none}
+use Rattle.basis.proofs.Laws.{every-more, every-of, false-true, or-none}
 use Rattle.basis.specs.Choice.{both, either, pick}
 use Rattle.basis.specs.Count.{every, upTo}
 use Rattle.queue.proofs.Lists.{filled, filled-is, length-pad, pad, pad-at, pad-snoc, past-at, snoc-at, take-at-in, take-at-pick}
@@ -155,12 +155,11 @@ module _ (v : ℕ) (q r : Queue) (before : ℕ) (s : length (q .items) ≡ 16) (
   pub removal-is : (count : ℕ) → count ≡ before - r .len → _≡_ {A = Removal} (record { queue = r; count = count }) (removal v q)
   removal-is count g = let h : count ≡ entriesOf v (entries q) = omega (arith, g, long) in rw (f, h)
 
--- a turn of the loop that joins the places past the entries
-pub past-more : (n : ℕ) (items : List ℕ) (k bits y : ℕ) → eqb bits 0 ≡ every (λ j. either (ltb j n) (eqb (getD items j 0) 0)) k → y ≡ pick (ltb k n) 0 (getD items k 0)
-    → eqb (bitOr bits y) 0 ≡ every (λ j. either (ltb j n) (eqb (getD items j 0) 0)) (k + 1)
-past-more n items k bits y e f =
-    every-more (λ j. either (ltb j n) (eqb (getD items j 0) 0)) k (eqb bits 0) (eqb (bitOr bits y) 0) e (rw f (or-none bits _ ∙ go (ltb k n)))
-  where
-    go : (b : Bool) → both (eqb (pick b 0 (getD items k 0)) 0) (eqb bits 0) ≡ both (either b (eqb (getD items k 0) 0)) (eqb bits 0)
-    go true = refl
-    go false = refl
+-- the loop that joins the places past the entries: none yet, and one more
+pub past-none : (n : ℕ) (items : List ℕ) (k : ℕ) → k ≡ min n 16 → true ≡ every (λ j. either (ltb j n) (eqb (getD items j 0) 0)) k
+past-none n items k h = sym (every-of (λ j. either (ltb j n) (eqb (getD items j 0) 0)) k (λ j l. rw (lt-ltb j n (omega arith))))
+
+pub past-more : (n : ℕ) (items : List ℕ) (k bits : ℕ) → min n 16 ≤ k → k < 16 → eqb bits 0 ≡ every (λ j. either (ltb j n) (eqb (getD items j 0) 0)) k
+    → eqb (bitOr bits (getD items k 0)) 0 ≡ every (λ j. either (ltb j n) (eqb (getD items j 0) 0)) (k + 1)
+past-more n items k bits h l e =
+    every-more (λ j. either (ltb j n) (eqb (getD items j 0) 0)) k (eqb bits 0) (eqb (bitOr bits (getD items k 0)) 0) e (rw (le-ltb k n (omega arith)) (or-none bits (getD items k 0)))

@@ -139,16 +139,16 @@ impl Queue {
         }
     }
 
-    // W5: whether the places past the entries hold zero. Their bits are joined with no exit, so that this compiles to vector code.
+    // W5: whether the places past the entries hold zero.
     pub fn padded(self) -> bool
         ensures { λ r. ⌜ r ≡ paddedOf self ⌝ }
     {
         let items = self.items;
         let n = self.len;
         let mut bits: u8 = 0;
-        let mut k: usize = 0;
+        let mut k = entry_count(n) as usize;
         while k < 16 {
-            bits = bits | past(k as u8, n, items[k]);
+            bits = bits | items[k];
             k = k + 1;
         }
         bits == 0
@@ -210,11 +210,4 @@ fn stays(k: u8, n: u8, x: u8, v: u8) -> bool
         return true;
     }
     false
-}
-
-// What place k, which holds x, has past n entries.
-fn past(k: u8, n: u8, x: u8) -> u8
-    ensures { λ r. ⌜ r ≡ pick (ltb k n) 0 x ⌝ }
-{
-    if k < n { 0 } else { x }
 }
