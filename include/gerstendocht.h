@@ -14,7 +14,7 @@
  *   - a pointer is not null, has the alignment of its type and points to as much memory as is said. This
  *     holds for the image too where its length is 0;
  *   - `length` is not more than the bytes at `image`;
- *   - while core_live runs, nobody else reads or writes the state that it was lent.
+ *   - while core_live or core_inner runs, nobody else reads or writes the state that it was lent.
  * Padding between the fields is not part of a value: compare states field by field, not by memcmp.
  */
 #ifndef GERSTENDOCHT_H
@@ -157,6 +157,14 @@ core_stepped core_step(core_state core, core_input event);
 
 /* The same on a state that is lent: the state after the event stands where the one before it stood. */
 core_answer core_live(core_state *core, core_input event);
+
+/*
+ * The same with no test whether the state is sound: for a host that guards its state. Where the state came
+ * from core_fresh with fault 0, and nothing but core_live, core_step and core_inner wrote it since, core_inner
+ * leaves and answers what core_live does, at less than half its cost. On any other state use core_live: there
+ * core_inner still ends and writes nothing but the state and the answer, but what it answers has no meaning.
+ */
+core_answer core_inner(core_state *core, core_input event);
 
 #ifdef __cplusplus
 }

@@ -1,5 +1,5 @@
 -- From the parts of an event to the whole: refused by its row, or done.
-use Prim.Native.Nat.{ℕ, _%_, _≤_}
+use Prim.Native.Nat.{ℕ, _%_}
 use denote.Enum.Declared.{tagOf}
 use types.Run.{OneOf, miss}
 use borrow.Author.Tests.{eq-eqb, eqb-false, eqb-true, ltb-false, ltb-true, ne-eqb}
@@ -32,7 +32,7 @@ use Rattle.event.proofs.Event as E
 use Rattle.event.specs.Kinds.{isExtra, isStart, isTick, ofMaster, ofRunning, subject, wantsReady}
 use Rattle.event.specs.declared.Event.the-variants.{Call, Extra, Fault, Restart, Shutdown, Start, Stop, Tick, Write}
 use Rattle.event.specs.declared.Event.{Event}
-use Rattle.guest.specs.Record.{fresh, isReady, savedAt}
+use Rattle.guest.specs.Record.{fresh, isReady}
 use Rattle.guest.specs.declared.Vm.{Vm}
 use Rattle.logic.specs.Changing.{changeFrom, placeFrom}
 use Rattle.logic.specs.Rows.{rowFrom, strayFault, strayWrite}

@@ -131,8 +131,9 @@ impl Core {
         let entries = config.entries;
         let handlers = config.handlers;
         let running = self.running;
-        let clock = self.clock;
+        let stands = self.clock;
         let queue = made_again(self.queue);
+        let count = config.count;
         let room = config.room;
         let mut w = self.vms;
         let place = logic::place_of(e, running);
@@ -140,15 +141,7 @@ impl Core {
         let old = w[i];
         let vm = old.or_fresh(place < 8);
         let ready = vm.is_ready();
-        let n = logic::row_of(
-            e,
-            clock.started,
-            config.count,
-            running,
-            ready,
-            room,
-            queue.len,
-        );
+        let n = logic::row_of(e, stands.started, count, running, ready, room, queue.len);
         let full = room <= queue.len;
         let entry = places::word_at(&entries, place as usize);
         let handler = places::word_at(&handlers, place as usize);
@@ -159,7 +152,7 @@ impl Core {
         let rest = d.queue;
         After {
             vms: w,
-            clock: clock,
+            clock: stands,
             running: d.running,
             queue: rest,
             answer: d.answer(n, d.running, vms::if_vm(d.running, runs.address)),

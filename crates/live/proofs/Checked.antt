@@ -1,6 +1,6 @@
 -- The function that tests a lent state before another function has it, walked by hand: `if test(*c) { return inner(c, e); } barred()`, over any state, request and answer.
 -- The state is copied out for the test. Where it passes, the borrow is given to `inner` as it was; where it fails, nothing was written.
-use mathlib.Core.Path.{_≡_, ap, refl, subst, sym, _∙_}
+use mathlib.Core.Path.{_≡_, ap, refl, subst, sym}
 use mathlib.Core.Bool.{Bool, false, not, true}
 use Prim.Native.Nat.{ℕ}
 use mathlib.Core.List.{[], _∷_, List}
@@ -11,7 +11,7 @@ use mir.Syntax.{Body, Fn, Name, addrOf, assign, call, cond, copy, deref, erased,
 use mir.Val.{Val, WT, hasTy, vptr}
 use base.Logic.{SProp, emp, ent, exE, fst∗, id⊢, sep, snd∗, via}
 use base.Fml.{GName, Lft, Share, ftrue, fat, fbor, flft, fobs, fres}
-use prog.Wp.{Env, Heap, Calls, Loops, WpFn, Tables}
+use prog.Wp.{Heap, Calls, Loops, WpFn, Tables}
 use ghost.Atoms.{Atoms, sem}
 use contract.Lifetimes.{Lfts}
 use contract.Monad.{fact}
@@ -30,7 +30,7 @@ use denote.Struct.Steps.{spelt}
 use denote.Exit.{yes}
 use denote.Triple.Statement.{Contract, Triple}
 use denote.Triple.Call.{calls-at}
-use denote.Triple.Clauses.{AtExit, Clauses, Ended, atExit, closing, ensured, lasts}
+use denote.Triple.Clauses.{Clauses, Ended, closing, ensured, lasts}
 use denote.Triple.Entry.{Args, onEntry}
 use denote.Triple.Spec.{Meets, tripleOf}
 use denote.Triple.Walked.{Stays, ends-at, gave-ref, goes-gave-ref, goes-none, stay-none, walk-meets, walkOf, walked}

@@ -1,7 +1,6 @@
 -- From the parts that an inner event gives, and the test of soundness, to what a host is promised.
-use Prim.Native.Nat.{ℕ}
 use mathlib.Core.Bool.{false, true}
-use mathlib.Core.Path.{ap, refl, sym, _∙_, _≡_}
+use mathlib.Core.Path.{ap, refl, sym, _≡_}
 use Rattle.change.specs.Answers.{quietly}
 use Rattle.basis.specs.Nobody.{nobody}
 use Rattle.core.proofs.Inner.{inner-config, step-sound, step-unsound, whole}

@@ -2,11 +2,10 @@
 use Prim.Native.Nat.{ℕ}
 use mathlib.Core.Bool.{Bool, false, true}
 use mathlib.Core.List.{List, [], _∷_}
-use mathlib.Core.Path.{ap, refl, subst, sym, _≡_}
-use Rattle.basis.specs.Choice.{pick, unless}
+use mathlib.Core.Path.{subst, sym, _≡_}
+use Rattle.basis.specs.Choice.{pick}
 use Rattle.basis.specs.Numbers.{Bytes}
 use Rattle.core.specs.Refusals.{refused}
-use Rattle.core.specs.Sound.{sound}
 use Rattle.core.specs.declared.Core.{Core}
 use Rattle.core.specs.declared.Stepped.{Stepped}
 use Rattle.core_laws.proofs.Always.{Good, good-fresh, good-step}

@@ -71,13 +71,10 @@ pub fn change_of(
         Event::Start => Change::renewed(place, vm, running, queue, Answer::NOTHING),
         Event::Tick(_) => Change::ticking(place, vm, queue, left, handler),
         Event::Stop(_) => Change::stopping(place, vm, running, queue),
-        Event::Shutdown(_) => Change::renewed(
-            place,
-            vm.pended(Vm::SHUTDOWN),
-            running,
-            queue,
-            Answer::NOTHING,
-        ),
+        Event::Shutdown(_) => {
+            let waits = Answer::NOTHING;
+            Change::renewed(place, vm.pended(Vm::SHUTDOWN), running, queue, waits)
+        }
         Event::Restart(_) => Change::restarting(place, entry, running, queue),
         Event::Extra(_) => Change::queueing(place, vm, running, queue),
         Event::Call(service, argument, next) => {

@@ -1,5 +1,5 @@
 -- The test, then `core_inner` or the answer 1: the walk, at its contract.
-use mathlib.Core.Path.{ap, sym, _∙_}
+use mathlib.Core.Path.{ap, sym}
 use base.Logic.{emp}
 use contract.Monad.{factI}
 use contract.Running.{givenOf, tables, tablesOf}

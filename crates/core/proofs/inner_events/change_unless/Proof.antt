@@ -1,6 +1,5 @@
 -- By the refusal.
 use borrow.Author.Needs.{needs}
-use Rattle.basis.proofs.Laws.{pick-false, pick-true, tests}
 use borrow.Author.Tests.{eq-eqb, ne-eqb}
 use Rattle.core.proofs.inner_events.change_unless.Statement.{statement}
 use Rattle.core.proofs.inner_events.change_unless.Tie as tie
