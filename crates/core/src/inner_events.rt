@@ -5,11 +5,11 @@ use crate::Core;
 use basis::places;
 use change::Answer;
 use change::Change;
+use checks::rows;
 use config::Config;
 use event::Event;
 use guest::Vm;
 use queue::Queue;
-use table::Clock;
 ghost use lib.Dec.{eqb};
 ghost use mathlib.Core.Path.{_≡_};
 ghost use Rattle.basis.specs.Choice.{pick};
@@ -51,20 +51,22 @@ impl Core {
     fn start_after(self) -> After
         ensures { λ r. ⌜ r ≡ partsOf (innerOf self Event.Start) ⌝ }
     {
-        if self.clock.started == Clock::YES {
-            self.kept(7)
-        } else {
+        let n = rows::of_start(self.clock.started);
+        if n == 0 {
             self.start_done()
+        } else {
+            self.kept(n)
         }
     }
 
     fn tick_after(self, at: u32) -> After
         ensures { λ r. ⌜ r ≡ partsOf (innerOf self (Event.Tick at)) ⌝ }
     {
-        if self.clock.started == Clock::YES {
+        let n = rows::of_tick(self.clock.started);
+        if n == 0 {
             self.tick_done(at)
         } else {
-            self.kept(2)
+            self.kept(n)
         }
     }
 
