@@ -53,7 +53,7 @@ module _ (c : Core) (n : ℕ) where
   kept-is h = rw (ne-eqb n 1 h)
 
 module _ (c : Core) (e : Event) (n : ℕ) (r : After) (row : n ≡ rowOf c e) where
-  pub after-refused : (n ≡ 0 → ⊥) → (n ≡ 1 → ⊥) → r ≡ kept c n → r ≡ partsOf (innerOf c e)
+  after-refused : (n ≡ 0 → ⊥) → (n ≡ 1 → ⊥) → r ≡ kept c n → r ≡ partsOf (innerOf c e)
   unfolding innerOf
   after-refused h k f = rw (← row, ne-eqb n 0 h) (f ∙ kept-is c n k)
 
@@ -194,6 +194,10 @@ unfolding rowOf
 not-1 c e =
     not-first (both (isStart e) (eqb (c .clock .started) 1)) (both (not (isStart e)) (not (eqb (c .clock .started) 1))) (both (ofMaster e) (not (ltb (subject e) (c .config .count))))
     (both (wantsReady e) (not (readyAt c (subject e)))) (both (isExtra e) (leb (c .config .room) (c .queue .len))) (both (ofRunning e) (eqb (c .running) nobody)) (strayWrite e) (strayFault e)
+
+-- refused by its row
+pub after-row : (c : Core) (e : Event) (n : ℕ) (r : After) → n ≡ rowOf c e → (n ≡ 0 → ⊥) → r ≡ kept c n → r ≡ partsOf (innerOf c e)
+after-row c e n r row h f = after-refused c e n r row h (λ (z : n ≡ 1). not-1 c e (sym row ∙ z)) f
 
 -- a change is of the VM that it is given
 place-pick : (v : ℕ) (b : Bool) (x y : Change) → x .place ≡ v → y .place ≡ v → pick b x y .place ≡ v

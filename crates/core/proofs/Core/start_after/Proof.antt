@@ -1,9 +1,8 @@
 -- Refused by its row, else done.
 use borrow.Author.Needs.{needs}
-use mathlib.Core.Path.{sym, _∙_}
 use Rattle.core.proofs.Core.start_after.Statement.{statement}
 use Rattle.core.proofs.Core.start_after.Tie as tie
-use Rattle.core.proofs.Inner.{after-done, after-refused, not-1}
+use Rattle.core.proofs.Inner.{after-done, after-row}
 use Rattle.core.specs.Refusals.{rowOf}
 use Rattle.event.specs.declared.Event.the-variants.{Start}
 
@@ -22,7 +21,7 @@ returns c = after-done _ Start _ _ (c .before .before .of-start .ensures) (c .be
 
 returns-2 : tie.Need-returns-2
 unfolding rowOf
-returns-2 c = after-refused _ Start _ _ (c .before .before .of-start .ensures) (c .before .if1 .left) (λ z. not-1 _ Start (sym (c .before .before .of-start .ensures) ∙ z)) (c .kept .ensures)
+returns-2 c = after-row _ Start _ _ (c .before .before .of-start .ensures) (c .before .if1 .left) (c .kept .ensures)
 
 pub start-after-spec : {M : Type 1} → statement M
 start-after-spec = tie.close (tie.spec of-start-requires start-done-requires kept-requires returns returns-2)

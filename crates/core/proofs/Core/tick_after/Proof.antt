@@ -1,9 +1,8 @@
 -- Refused by its row, else done.
 use borrow.Author.Needs.{needs}
-use mathlib.Core.Path.{sym, _∙_}
 use Rattle.core.proofs.Core.tick_after.Statement.{statement}
 use Rattle.core.proofs.Core.tick_after.Tie as tie
-use Rattle.core.proofs.Inner.{after-done, after-refused, not-1}
+use Rattle.core.proofs.Inner.{after-done, after-row}
 use Rattle.core.specs.Refusals.{rowOf}
 use Rattle.event.specs.declared.Event.the-variants.{Tick}
 
@@ -22,7 +21,7 @@ returns c = after-done _ (Tick _) _ _ (c .before .before .of-tick .ensures) (c .
 
 returns-2 : tie.Need-returns-2
 unfolding rowOf
-returns-2 c = after-refused _ (Tick _) _ _ (c .before .before .of-tick .ensures) (c .before .if1 .left) (λ z. not-1 _ (Tick _) (sym (c .before .before .of-tick .ensures) ∙ z)) (c .kept .ensures)
+returns-2 c = after-row _ (Tick _) _ _ (c .before .before .of-tick .ensures) (c .before .if1 .left) (c .kept .ensures)
 
 pub tick-after-spec : {M : Type 1} → statement M
 tick-after-spec = tie.close (tie.spec of-tick-requires tick-done-requires kept-requires returns returns-2)
