@@ -161,8 +161,8 @@ core_answer core_live(core_state *core, core_input event);
 /*
  * The same with no test whether the state is sound: for a host that guards its state. Where the state came
  * from core_fresh with fault 0, and nothing but core_live, core_step and core_inner wrote it since, core_inner
- * leaves and answers what core_live does, at less than half its cost. On any other state use core_live: there
- * core_inner still ends and writes nothing but the state and the answer, but what it answers has no meaning.
+ * leaves and answers what core_live does, for less. On any other state use core_live: there core_inner still
+ * ends and writes nothing but the state and the answer, but what it answers has no meaning.
  */
 core_answer core_inner(core_state *core, core_input event);
 
