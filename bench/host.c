@@ -175,7 +175,7 @@ typedef struct test_case {
     const char *name;
     core_input before[8], event;
     spoiled spoiled;
-    bool chain, fresh, last;
+    bool chain, fresh, last, late;
 } test_case;
 
 #define TICK {.kind = CORE_TICK, .word = 0x1000}
@@ -225,12 +225,15 @@ static const test_case cases[] = {
     {.name = "Fault", .before = {TICK}, .event = FAULT(3)},
     {.name = "Fault, refused with 9", .before = {TICK}, .event = FAULT(6)},
     {.name = "unknown kind, refused with 10", .before = {TICK}, .event = {.kind = 0x19}},
+    {.name = "Tick, 2 VMs, VM 1 comes last in 64 slots", .before = {TICK}, .event = TICK, .late = true},
+    {.name = "Restart, the same table, the queue is full", .before = {TICK}, .spoiled = FILL, .event = MASTER(CORE_RESTART, 1), .late = true},
+    {.name = "Call 2 that delivers 0, the same", .before = {TICK, WRITE(8, 1)}, .spoiled = FILL, .event = CALL(2, 0), .late = true},
     {.name = "Tick, the VM count is not sound", .before = {TICK}, .spoiled = EARLY, .event = TICK},
     {.name = "Tick, who runs is not sound", .before = {TICK}, .spoiled = LATE, .event = TICK},
 };
 
 static core_state state_of(const test_case *t, size z) {
-    core_state c = fresh(z, t->last ? LAST : MIXED);
+    core_state c = fresh(z, t->last || t->late ? LAST : MIXED);
     if (!t->fresh) trusting(&c, (core_input){.kind = CORE_START});
     for (int n = 0; n < 8 && t->before[n].kind; n++) trusting(&c, t->before[n]);
     for (int n = 0; t->spoiled == FILL && n < CORE_ROOM; n++) trusting(&c, (core_input){.kind = CORE_EXTRA, .byte = n % 2});
@@ -278,7 +281,10 @@ int main(void) {
     name("base", "", "empty", ""), loop_empty();
     name("base", "", "copy", ""), loop_copy(&c);
     for (unsigned n = 0; n < sizeof cases / sizeof cases[0]; n++)
-        for (int k = cases[n].last ? SIZES - 1 : 0; k < SIZES; k++) count_case(&cases[n], sizes[k]);
+        if (cases[n].late)
+            count_case(&cases[n], late);
+        else
+            for (int k = cases[n].last ? SIZES - 1 : 0; k < SIZES; k++) count_case(&cases[n], sizes[k]);
     for (int k = 0; k < SIZES; k++) count_reading(sizes[k]);
     printf("sum %u\n", sum);
     return 0;

@@ -15,6 +15,9 @@ enum { SIZES = 3 };
 static const size sizes[SIZES] = {{"2 VMs, 3 slots, queue 1", 2, 3, 1}, {"4 VMs, 16 slots, queue 8", 4, 16, 8},
                                   {"8 VMs, 64 slots, queue 16", 8, 64, 16}};
 
+/* Few VMs in a long table: the dearest to test, where one of them comes last. */
+static const size late = {"2 VMs, 64 slots, queue 16", 2, 64, 16};
+
 /* Which slots a table has: every third is spare; none is spare; VM 0 has all but the last, which the others have. */
 typedef enum table { MIXED, NAMED, LAST } table;
 
