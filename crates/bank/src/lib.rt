@@ -65,7 +65,7 @@ pub fn put_vm(standings: &mut [u8], words: &mut [u32], i: u8, v: Vm)
     }
 }
 
-// Each of the first n records one tick older (D4).
+// Each of the first `count` records one tick older (D4).
 pub fn age_all(standings: &[u8], words: &mut [u32], count: u8)
     requires { ⌜ (length (now standings) ≡ 8) × (length (now words) ≡ 104) ⌝ }
     ensures { λ _. ⌜ vmsOf (now (standings .entry)) (now (words .exit)) ≡ agedAll count (vmsOf (now (standings .entry)) (now (words .entry))) ⌝ }
