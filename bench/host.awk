@@ -17,6 +17,13 @@ NR == FNR { count[NR] = $1; next }
     loops++
     took = count[2 * loops] - count[2 * loops - 1]
     if (part[1] == "base") { base[part[3]] = took; next }
+    if (part[1] ~ /^shape/) {
+        took -= base[part[4]]
+        shapes++
+        if (took > most["any"]) { most["any"] = took; at["any"] = part[3] ": " part[2] }
+        if (part[1] ~ /Tick$/ && took > most["Tick"]) { most["Tick"] = took; at["Tick"] = part[3] ": " part[2] }
+        next
+    }
     put(part[1], part[3], (took - base[part[4]]) / turns)
     if (!(part[1] in seen)) { seen[part[1]] = 1; order[++rows] = part[1] }
 }
@@ -32,6 +39,13 @@ END {
         for (i = 1; i <= forms; i++) line = line " " shown(what, form[i]) " |"
         print line
     }
+    print "\n### The dearest configuration\n"
+    print "Each of these events on each of these shapes, " commas(shapes) " calls: 1 to 8 VMs, 1 to 64 slots, the three tables of `bench/images.h`, the"
+    print "queue empty and full.\n"
+    print "| | `core_live` | where |"
+    print "|---|---|---|"
+    print "| the dearest Tick | " commas(most["Tick"]) " | " at["Tick"] " |"
+    print "| the dearest event | " commas(most["any"]) " | " at["any"] " |"
     print "\n### Images\n"
     print "| | ours | C |"
     print "|---|---|---|"

@@ -129,6 +129,19 @@ __attribute__((noinline)) static void loop_lent(lent_form f, const core_state *f
     mark();
 }
 
+__attribute__((noinline)) static void loop_nothing(void) {
+    mark();
+    mark();
+}
+
+/* One call, on a state that is not wanted any more. */
+__attribute__((noinline)) static void loop_once(core_state c, core_input e) {
+    mark();
+    core_answer a = core_live(&c, e);
+    mark();
+    add(a);
+}
+
 /* The state is not put back: one event after the other. */
 __attribute__((noinline)) static void loop_chain(lent_form f, const core_state *from, core_input e) {
     core_state c = *from;
@@ -232,8 +245,7 @@ static const test_case cases[] = {
     {.name = "Tick, who runs is not sound", .before = {TICK}, .spoiled = LATE, .event = TICK},
 };
 
-static core_state state_of(const test_case *t, size z) {
-    core_state c = fresh(z, t->last || t->late ? LAST : MIXED);
+static core_state state_from(const test_case *t, core_state c) {
     if (!t->fresh) trusting(&c, (core_input){.kind = CORE_START});
     for (int n = 0; n < 8 && t->before[n].kind; n++) trusting(&c, t->before[n]);
     for (int n = 0; t->spoiled == FILL && n < CORE_ROOM; n++) trusting(&c, (core_input){.kind = CORE_EXTRA, .byte = n % 2});
@@ -241,6 +253,8 @@ static core_state state_of(const test_case *t, size z) {
     if (t->spoiled == LATE) c.running = 1;
     return c;
 }
+
+static core_state state_of(const test_case *t, size z) { return state_from(t, fresh(z, t->last || t->late ? LAST : MIXED)); }
 
 static void count_form(const test_case *t, const char *z, const char *form, lent_form f, const core_state *c) {
     name(t->name, z, form, t->chain ? "empty" : "copy");
@@ -265,6 +279,29 @@ static void count_case(const test_case *t, size z) {
     if (trusted) count_form(t, z.name, "C trusting", trusting, &c);
 }
 
+/* Each case in each shape of a legal configuration: how many VMs and slots, which table, the queue empty or full. */
+static void count_shapes(void) {
+    static const unsigned lengths[] = {1, 2, 3, 8, 15, 16, 17, 24, 32, 33, 48, 63, 64};
+    char shape[64];
+    for (unsigned vms = 1; vms <= CORE_VMS; vms++)
+        for (unsigned k = 0; k < sizeof lengths / sizeof lengths[0]; k++)
+            for (int t = MIXED; t <= LAST; t++)
+                for (int full = 0; full < 2; full++)
+                    for (unsigned n = 0; n < sizeof cases / sizeof cases[0]; n++) {
+                        size z = {"", vms, lengths[k], full ? CORE_ROOM : 0};
+                        uint8_t image[332];
+                        core_begun r = core_fresh(image, make_image(image, z, (table)t));
+                        if (r.fault) continue;
+                        test_case c = cases[n];
+                        if (full) c.spoiled = c.spoiled ? c.spoiled : FILL;
+                        core_state from = state_from(&c, r.core);
+                        if (!sound(&from)) continue;
+                        snprintf(shape, sizeof shape, "%u VMs, %u slots, table %d, queue %u", vms, z.slots, t, z.queue);
+                        name(c.event.kind == CORE_TICK ? "shape, Tick" : "shape", shape, c.name, "nothing");
+                        loop_once(from, c.event);
+                    }
+}
+
 static void count_reading(size z) {
     uint8_t image[332];
     size_t m = make_image(image, z, MIXED);
@@ -280,12 +317,14 @@ int main(void) {
     printf("turns %d\n", TURNS);
     name("base", "", "empty", ""), loop_empty();
     name("base", "", "copy", ""), loop_copy(&c);
+    name("base", "", "nothing", ""), loop_nothing();
     for (unsigned n = 0; n < sizeof cases / sizeof cases[0]; n++)
         if (cases[n].late)
             count_case(&cases[n], late);
         else
             for (int k = cases[n].last ? SIZES - 1 : 0; k < SIZES; k++) count_case(&cases[n], sizes[k]);
     for (int k = 0; k < SIZES; k++) count_reading(sizes[k]);
+    count_shapes();
     printf("sum %u\n", sum);
     return 0;
 }

@@ -1,3 +1,4 @@
+pub mod Bits
 pub mod Choice
 pub mod Count
 pub mod Buffer

@@ -1,9 +1,11 @@
 -- S4 to S7 over the arrays of a configuration, as the code tests them; `legal` of Sizes is what they mean.
-use Prim.Native.Nat.{ℕ}
+use Prim.Native.Nat.{ℕ, _+_, _<_}
 use lib.Dec.{eqb, ltb}
 use lib.ListN.{getD}
 use mathlib.Core.Bool.{Bool}
 use mathlib.Core.List.{List, [], _∷_}
+use mathlib.Core.Path.{_≡_}
+use Rattle.basis.specs.Bits.{bit}
 use Rattle.basis.specs.Choice.{both, pick}
 use Rattle.basis.specs.Count.{every, some}
 use Rattle.config.specs.Sizes.{emptyPast, lasts, names, slotFits}
@@ -34,3 +36,11 @@ placeNumbers =
     ∷ 40 ∷ 41 ∷ 42 ∷ 43 ∷ 44 ∷ 45 ∷ 46 ∷ 47
     ∷ 48 ∷ 49 ∷ 50 ∷ 51 ∷ 52 ∷ 53 ∷ 54 ∷ 55
     ∷ 56 ∷ 57 ∷ 58 ∷ 59 ∷ 60 ∷ 61 ∷ 62 ∷ 63 ∷ []
+
+-- four VMs from `first` on, a bit of x for each: whether a slot in use names it
+abbrev pub NamedBy : Bool → ℕ → ℕ → ℕ → Type 0
+NamedBy used owner first x = (v : ℕ) → v < 4 → bit v x ≡ both used (eqb owner (first + v))
+
+-- whether one of the slots does
+abbrev pub NamedFrom : ℕ → ℕ → List ℕ → ℕ → Type 0
+NamedFrom first slots owners x = (v : ℕ) → v < 4 → bit v x ≡ some (λ k. eqb (getD owners k 0) (first + v)) slots

@@ -1,4 +1,5 @@
 // What a configuration is: the limits, the struct, and the test that it keeps the rules of the sizes (S1 to S7).
+mod numbers;
 mod places;
 
 ghost use lib.Dec.{leb};

@@ -1,15 +1,18 @@
 // The rules about the places of a configuration: S4 to S7. A loop leaves early only where it searches, so that the others compile to vector code.
 use crate::Config;
+use crate::numbers;
 use basis::tests::both;
-ghost use Prim.Native.Nat.{min, _%_, _^_, _≤_};
+ghost use Prim.Native.Nat.{_%_, _^_, _≤_};
 ghost use lib.Bits.{bitOr};
 ghost use lib.Dec.{eqb, leb, ltb};
 ghost use lib.ListN.{getD};
+ghost use mathlib.Core.Bool.{true};
 ghost use mathlib.Core.Path.{_≡_};
+ghost use Rattle.basis.specs.Bits.{bit};
 ghost use Rattle.basis.specs.Choice.{both, either, pick};
 ghost use Rattle.basis.specs.Count.{every, some};
-ghost use Rattle.config.specs.Places.{ownerFits, placeNumbers, placesFit, ticksFit};
-ghost use Rattle.config.specs.Sizes.{emptyPast, isSpare, lasts};
+ghost use Rattle.config.specs.Places.{NamedBy, NamedFrom, ownerFits, placeNumbers, placesFit, ticksFit};
+ghost use Rattle.config.specs.Sizes.{emptyPast, isSpare, lasts, names};
 
 // S4 to S7.
 pub fn all_fit(
@@ -23,88 +26,23 @@ pub fn all_fit(
     requires { ⌜ (1 ≤ count) × (count ≤ 8) × (slots ≤ 64) ⌝ }
     ensures { λ r. ⌜ r ≡ placesFit count slots (now (entries .entry)) (now (handlers .entry)) (now (owners .entry)) (now (durations .entry)) ⌝ }
 {
-    let fit = slots_fit(count, slots, owners, durations);
-    let served = vms_served(count, slots, owners);
-    let vms = vms_rest(count, entries, handlers);
-    both(fit, both(served, vms))
+    if slots_fit(count, slots, owners, durations) {
+        let served = vms_served(count, slots, owners);
+        let vms = vms_rest(count, entries, handlers);
+        return both(served, vms);
+    }
+    false
 }
-
-// The numbers of the slots' places, of one byte each.
-const PLACES: [u8; 64] = [
-    0,
-    1,
-    2,
-    3,
-    4,
-    5,
-    6,
-    7,
-    8,
-    9,
-    10,
-    11,
-    12,
-    13,
-    14,
-    15,
-    16,
-    17,
-    18,
-    19,
-    20,
-    21,
-    22,
-    23,
-    24,
-    25,
-    26,
-    27,
-    28,
-    29,
-    30,
-    31,
-    32,
-    33,
-    34,
-    35,
-    36,
-    37,
-    38,
-    39,
-    40,
-    41,
-    42,
-    43,
-    44,
-    45,
-    46,
-    47,
-    48,
-    49,
-    50,
-    51,
-    52,
-    53,
-    54,
-    55,
-    56,
-    57,
-    58,
-    59,
-    60,
-    61,
-    62,
-    63,
-];
 
 // S4, S5 and S7 of the slots, in two walks over all 64 places: each joins faults of one width.
 fn slots_fit(count: u8, slots: u8, owners: &[u8; 64], durations: &[u16; 64]) -> bool
     requires { ⌜ 1 ≤ count ⌝ }
     ensures { λ r. ⌜ r ≡ both (every (λ k. ownerFits count slots k (getD (now (owners .entry)) k 0)) 64) (every (λ k. ticksFit slots k (getD (now (owners .entry)) k 0) (getD (now (durations .entry)) k 0)) 64) ⌝ }
 {
-    let places = PLACES;
-    let named = owners_fit(count, slots, owners, &places);
-    let lasting = durations_fit(slots, owners, durations, &places);
+    let bytes = numbers::BYTES;
+    let named = owners_fit(count, slots, owners, &bytes);
+    let halves = numbers::HALVES;
+    let lasting = durations_fit(slots as u16, owners, durations, &halves);
     both(named, lasting)
 }
 
@@ -139,7 +77,7 @@ fn pick8(on: bool, a: u8, b: u8) -> u8
 }
 
 // S4, and S7 of the durations.
-fn durations_fit(slots: u8, owners: &[u8; 64], durations: &[u16; 64], places: &[u8; 64]) -> bool
+fn durations_fit(slots: u16, owners: &[u8; 64], durations: &[u16; 64], places: &[u16; 64]) -> bool
     requires { ⌜ now places ≡ placeNumbers ⌝ }
     ensures { λ r. ⌜ r ≡ every (λ k. ticksFit slots k (getD (now (owners .entry)) k 0) (getD (now (durations .entry)) k 0)) 64 ⌝ }
 {
@@ -168,41 +106,83 @@ fn pick16(on: bool, a: u16, b: u16) -> u16
     if on { a } else { b }
 }
 
-// S6, where S5 holds too. Mostly the first sixteen slots name every VM, and the others need no look.
+// S6, where S5 holds. A short table is walked slot by slot; a long one for four VMs at a time, with all slots side by side.
 fn vms_served(count: u8, slots: u8, owners: &[u8; 64]) -> bool
-    requires { ⌜ (count ≤ 8) × (slots ≤ 64) ⌝ }
-    ensures { λ r. ⌜ r ≡ every (λ v. some (λ k. eqb (getD (now (owners .entry)) k 0 % 64) v) slots) count ⌝ }
+    requires { ⌜ (count ≤ 8) × (slots ≤ 64) × (every (λ k. names count (getD (now owners) k 0)) slots ≡ true) ⌝ }
+    ensures { λ r. ⌜ r ≡ every (λ v. some (λ k. eqb (getD (now (owners .entry)) k 0) v) slots) count ⌝ }
 {
-    if served_by(count, first_of(slots), owners) {
-        true
+    if slots <= 16 {
+        served_short(count, slots, owners)
     } else {
-        served_by(count, slots, owners)
+        served_long(count, slots, owners)
     }
 }
 
-fn first_of(slots: u8) -> u8
-    ensures { λ r. ⌜ r ≡ min slots 16 ⌝ }
-{
-    if slots < 16 { slots } else { 16 }
-}
-
-// The numbers that the first slots name, modulo 64, joined as bits with no exit.
-fn served_by(count: u8, slots: u8, owners: &[u8; 64]) -> bool
+// The numbers that the slots name, modulo 64, joined as bits.
+fn served_short(count: u8, slots: u8, owners: &[u8; 64]) -> bool
     requires { ⌜ (count ≤ 8) × (slots ≤ 64) ⌝ }
     ensures { λ r. ⌜ r ≡ every (λ v. some (λ k. eqb (getD (now (owners .entry)) k 0 % 64) v) slots) count ⌝ }
 {
     let n = slots as usize;
-    let all = bit(count) - 1;
     let mut seen: u64 = 0;
     let mut k: usize = 0;
     while k < n {
-        seen = seen | bit(owners[k]);
+        seen = seen | power(owners[k]);
         k = k + 1;
     }
+    has_all(count, seen)
+}
+
+fn served_long(count: u8, slots: u8, owners: &[u8; 64]) -> bool
+    requires { ⌜ (count ≤ 8) × (slots ≤ 64) ⌝ }
+    ensures { λ r. ⌜ r ≡ every (λ v. some (λ k. eqb (getD (now (owners .entry)) k 0) v) slots) count ⌝ }
+{
+    let bytes = numbers::BYTES;
+    let low = named_from(0, slots, owners, &bytes) as u64;
+    if count <= 4 {
+        return has_all(count, low);
+    }
+    let high = named_from(4, slots, owners, &bytes) as u64;
+    both(has_all(4, low), has_all(count - 4, high))
+}
+
+// A bit for each of the four VMs from `first` on: whether a slot names it.
+fn named_from(first: u8, slots: u8, owners: &[u8; 64], places: &[u8; 64]) -> u8
+    requires { ⌜ (first ≤ 4) × (slots ≤ 64) × (now places ≡ placeNumbers) ⌝ }
+    ensures { λ r. ⌜ NamedFrom first slots (now (owners .entry)) r ⌝ }
+{
+    let mut seen: u8 = 0;
+    let mut k: usize = 0;
+    while k < 64 {
+        seen = seen | named_by(places[k] < slots, owners[k], first);
+        k = k + 1;
+    }
+    seen
+}
+
+// The bit of the VM that a slot in use names, where it is one of the four.
+fn named_by(used: bool, owner: u8, first: u8) -> u8
+    requires { ⌜ first ≤ 4 ⌝ }
+    ensures { λ r. ⌜ NamedBy used owner first r ⌝ }
+{
+    let named = pick8(used, owner, Config::SPARE);
+    let a = pick8(named == first, 1, 0);
+    let b = pick8(named == first + 1, 2, 0);
+    let c = pick8(named == first + 2, 4, 0);
+    let d = pick8(named == first + 3, 8, 0);
+    a | b | c | d
+}
+
+// Whether the lowest n bits are all set.
+fn has_all(n: u8, seen: u64) -> bool
+    requires { ⌜ n ≤ 8 ⌝ }
+    ensures { λ r. ⌜ r ≡ every (λ v. bit v seen) n ⌝ }
+{
+    let all = power(n) - 1;
     seen & all == all
 }
 
-fn bit(v: u8) -> u64
+fn power(v: u8) -> u64
     ensures { λ r. ⌜ r ≡ 2 ^ (v % 64) ⌝ }
 {
     1 << (v % 64)

@@ -10,8 +10,9 @@ use native.Mathlib.Decide.{decLt}
 use native.Mathlib.Nat.{mod-lt}
 use native.Mathlib.Omega.{arith}
 use Rattle.basis.proofs.Bits.{bit-zero}
+use Rattle.basis.specs.Bits.{bit}
 use Rattle.basis.specs.Choice.{both, pick}
-use Rattle.guest.specs.Bits.{bit, clearBit, highest, setBit}
+use Rattle.guest.specs.Bits.{clearBit, highest, setBit}
 use Rattle.guest.specs.Deliver.{deliver, due, interrupt, quiet}
 use Rattle.guest.specs.declared.Delivery.{Delivery}
 use Rattle.guest.specs.declared.Found.the-variants.{At, Nothing}

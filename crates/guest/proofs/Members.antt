@@ -8,9 +8,10 @@ use mathlib.Core.Path.{ap, refl, sym, _∙_, _≡_}
 use native.Mathlib.Nat.{div-eq-sub-div}
 use native.Mathlib.Omega.{arith}
 use Rattle.basis.proofs.Bits.{bit-or, power-other, power-same}
+use Rattle.basis.specs.Bits.{bit}
 use Rattle.basis.specs.Choice.{either, pick}
 use Rattle.guest.proofs.Laws.{and-in, or-sets}
-use Rattle.guest.specs.Bits.{bit, clearBit, setBit}
+use Rattle.guest.specs.Bits.{clearBit, setBit}
 
 either-false : (b : Bool) → either b false ≡ b
 either-false true = refl

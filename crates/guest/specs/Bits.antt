@@ -1,14 +1,10 @@
 -- Numbers as sets of pseudo-interrupts: bit n, of value 2 ^ n, stands for number n (F3, F4, F7, F9).
-use Prim.Native.Nat.{suc, zero, ℕ, _%_, _+_, _-_, _/_, _^_}
-use lib.Dec.{eqb}
+use Prim.Native.Nat.{suc, zero, ℕ, _+_, _-_, _^_}
 use mathlib.Core.Bool.{Bool}
+use Rattle.basis.specs.Bits.{bit}
 use Rattle.basis.specs.Choice.{pick}
 use Rattle.guest.specs.declared.Found.the-variants.{At, Nothing}
 use Rattle.guest.specs.declared.Found.{Found}
-
--- whether n is in x
-abbrev pub bit : ℕ → ℕ → Bool
-bit n x = eqb (x / 2 ^ n % 2) 1
 
 -- x with n in it
 unfoldable pub setBit : ℕ → ℕ → ℕ

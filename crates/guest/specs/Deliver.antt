@@ -1,8 +1,9 @@
 -- Delivery of a pseudo-interrupt (D11, D12), the entry into a tick (D8, D9) and the return (D26).
 use Prim.Native.Nat.{ℕ, _%_, _+_, _^_}
 use lib.Bits.{bitOr}
+use Rattle.basis.specs.Bits.{bit}
 use Rattle.basis.specs.Choice.{both}
-use Rattle.guest.specs.Bits.{bit, clearBit, highest}
+use Rattle.guest.specs.Bits.{clearBit, highest}
 use Rattle.guest.specs.declared.Delivery.{Delivery}
 use Rattle.guest.specs.declared.Found.the-variants.{At, Nothing}
 use Rattle.guest.specs.declared.Found.{Found}

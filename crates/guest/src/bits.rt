@@ -3,7 +3,8 @@ use crate::Found;
 use crate::Status;
 ghost use Prim.Native.Nat.{_<_, _^_};
 ghost use mathlib.Core.Path.{_≡_};
-ghost use Rattle.guest.specs.Bits.{bit, clearBit, setBit};
+ghost use Rattle.basis.specs.Bits.{bit};
+ghost use Rattle.guest.specs.Bits.{clearBit, setBit};
 ghost use Rattle.guest.specs.Deliver.{due};
 
 // D11: from 31 down to 0, the first that is set in both fields, or none.

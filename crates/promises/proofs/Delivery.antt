@@ -8,6 +8,7 @@ use mathlib.Core.Bool.{false, true}
 use mathlib.Core.Path.{ap, refl, subst, sym, _∙_, _≡_}
 use native.Mathlib.Omega.{arith}
 use Rattle.basis.proofs.Laws.{false-true}
+use Rattle.basis.specs.Bits.{bit}
 use Rattle.basis.specs.Choice.{both}
 use Rattle.basis.specs.Nobody.{nobody}
 use Rattle.change.specs.Changes.{calledFrom, deliveringFrom}
@@ -28,7 +29,7 @@ use Rattle.core_laws.proofs.View.{call-case, row-call, row-shutdown, step-case}
 use Rattle.event.specs.declared.Event.the-variants.{Call, Extra, Fault, Restart, Shutdown, Start, Stop, Tick, Write}
 use Rattle.event.specs.declared.Event.{Event}
 use Rattle.guest.proofs.Facts.{deliver-hit, deliver-number, deliver-quiet, pend-address, pend-enabled, pend-pending}
-use Rattle.guest.specs.Bits.{bit, clearBit, highest}
+use Rattle.guest.specs.Bits.{clearBit, highest}
 use Rattle.guest.specs.Deliver.{backFrom, deliver, due, enter, shown}
 use Rattle.guest.specs.Record.{endedAs, fresh, pend, savedAt}
 use Rattle.guest.specs.declared.Delivery.{Delivery}

@@ -6,6 +6,7 @@ use lib.ListN.{length}
 use mathlib.Core.Bool.{Bool, false, not, true}
 use mathlib.Core.List.{List, map, [], _++_, _∷_}
 use mathlib.Core.Path.{_≡_}
+use Rattle.basis.specs.Bits.{bit}
 use Rattle.basis.specs.Choice.{both, either, pick}
 use Rattle.basis.specs.Nobody.{nobody}
 use Rattle.change.specs.Answers.{errorOf, noNotice, noticeOf, quietly}
@@ -20,7 +21,7 @@ use Rattle.core.specs.declared.Core.{Core}
 use Rattle.event.specs.Kinds.{byteOf, isCall, isExtra, isStart, ofMaster, ofRunning, subject, wantsReady}
 use Rattle.event.specs.declared.Event.the-variants.{Call, Extra, Fault, Restart, Shutdown, Start, Stop, Tick, Write}
 use Rattle.event.specs.declared.Event.{Event}
-use Rattle.guest.specs.Bits.{bit, clearBit, highest, setBit}
+use Rattle.guest.specs.Bits.{clearBit, highest, setBit}
 use Rattle.guest.specs.Record.{startedAt}
 use Rattle.guest.specs.declared.Found.the-variants.{At, Nothing}
 use Rattle.guest.specs.declared.Found.{Found}

@@ -4,6 +4,7 @@ use lib.Dec.{eqb, ltb}
 use lib.ListN.{getD}
 use mathlib.Core.Bool.{Bool, not}
 use mathlib.Core.List.{List, _∷_}
+use Rattle.basis.specs.Bits.{bit}
 use Rattle.basis.specs.Choice.{both, pick}
 use Rattle.basis.specs.Nobody.{nobody}
 use Rattle.change.specs.Answers.{noNotice}
@@ -18,7 +19,6 @@ use Rattle.core.specs.declared.Stepped.{Stepped}
 use Rattle.event.specs.Kinds.{anyRestart, byteOf, isExtra, isShutdown, isStop, isTick}
 use Rattle.event.specs.declared.Event.the-variants.{Call, Extra, Fault, Restart, Shutdown, Start, Stop, Tick, Write}
 use Rattle.event.specs.declared.Event.{Event}
-use Rattle.guest.specs.Bits.{bit}
 use Rattle.guest.specs.Deliver.{backFrom, deliver, deliverBy, quiet, shown}
 use Rattle.guest.specs.Record.{fresh, pend, savedAt, withPending, withStatus}
 use Rattle.guest.specs.declared.Delivery.{Delivery}

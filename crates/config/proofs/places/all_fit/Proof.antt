@@ -1,7 +1,7 @@
--- The two walks, the bits and the VM places joined are the definition (`fit-law`).
+-- The two walks, the VMs served and the VM places joined are the definition (`fit-law`, `unfit-law`).
 use borrow.Author.Needs.{needs}
 use native.Mathlib.Omega.{arith}
-use Rattle.config.proofs.Walks.{fit-law}
+use Rattle.config.proofs.Walks.{fit-law, owned-law, unfit-law}
 use Rattle.config.proofs.places.all_fit.Statement.{statement}
 use Rattle.config.proofs.places.all_fit.Tie as tie
 
@@ -9,7 +9,7 @@ slots-fit-requires : tie.Need-slots-fit-requires
 slots-fit-requires c κs = search needs
 
 vms-served-requires : tie.Need-vms-served-requires
-vms-served-requires c κs = search needs
+vms-served-requires c κs = (omega arith, omega arith, owned-law _ _ (c .before .before .args .owners .now) (c .before .before .args .durations .now) _ (omega arith) (c .before .slots-fit .ensures) (c .if1 .taken))
 
 vms-rest-requires : tie.Need-vms-rest-requires
 vms-rest-requires c κs = search needs
@@ -17,11 +17,11 @@ vms-rest-requires c κs = search needs
 both-requires : tie.Need-both-requires
 both-requires c κs = search needs
 
-both-requires-2 : tie.Need-both-requires-2
-both-requires-2 c κs = search needs
-
 returns : tie.Need-returns
-returns c = fit-law _ _ _ _ _ _ _ _ _ _ _ (omega arith) (omega arith) (c .before .before .before .before .slots-fit .ensures) (c .before .before .before .vms-served .ensures) (c .before .before .vms-rest .ensures) (c .before .both .ensures) (c .both2 .ensures)
+returns c = fit-law _ _ _ (c .before .before .before .before .before .args .durations .now) _ _ _ _ _ _ (omega arith) (c .before .before .before .before .slots-fit .ensures) (c .before .before .before .if1 .taken) (c .before .before .vms-served .ensures) (c .before .vms-rest .ensures) (c .both .ensures)
+
+returns-2 : tie.Need-returns-2
+returns-2 c = unfit-law _ _ _ _ _ _ _ (c .before .slots-fit .ensures) (c .if1 .left)
 
 pub all-fit-spec : {M : Type 1} → statement M
 all-fit-spec =
@@ -31,5 +31,5 @@ all-fit-spec =
     vms-served-requires
     vms-rest-requires
     both-requires
-    both-requires-2
-    returns)
+    returns
+    returns-2)

@@ -1,6 +1,6 @@
 -- The places below `k` are tested.
-use Prim.Native.Nat.{_-_, _≤_}
 use borrow.Author.Needs.{needs}
+use Prim.Native.Nat.{_-_, _≤_}
 use lib.Dec.{eqb}
 use lib.ListN.{getD}
 use mathlib.Core.Path.{refl, _≡_}
@@ -22,14 +22,17 @@ loop-holds : tie.Need-loop-holds Inv-loop μ-loop
 unfolding every
 loop-holds c = (omega arith, refl)
 
+mul-ticks-fault : tie.Need-mul-ticks-fault Inv-loop μ-loop
+mul-ticks-fault c = search needs
+
 element-copy-out-ticks-fault : tie.Need-element-copy-out-ticks-fault Inv-loop μ-loop
 element-copy-out-ticks-fault c = search needs
 
 element-copy-out-ticks-fault-2 : tie.Need-element-copy-out-ticks-fault-2 Inv-loop μ-loop
 element-copy-out-ticks-fault-2 c = search needs
 
-mul-ticks-fault : tie.Need-mul-ticks-fault Inv-loop μ-loop
-mul-ticks-fault c = search needs
+mul-ticks-fault-2 : tie.Need-mul-ticks-fault-2 Inv-loop μ-loop
+mul-ticks-fault-2 c = search needs
 
 element-copy-out-ticks-fault-3 : tie.Need-element-copy-out-ticks-fault-3 Inv-loop μ-loop
 element-copy-out-ticks-fault-3 c = search needs
@@ -56,9 +59,10 @@ durations-fit-spec =
     Inv-loop
     μ-loop
     loop-holds
+    mul-ticks-fault
     element-copy-out-ticks-fault
     element-copy-out-ticks-fault-2
-    mul-ticks-fault
+    mul-ticks-fault-2
     element-copy-out-ticks-fault-3
     ticks-fault-requires
     add-k
