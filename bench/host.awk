@@ -40,8 +40,8 @@ END {
         print line
     }
     print "\n### The dearest configuration\n"
-    print "Each of these events on each of these shapes, " commas(shapes) " calls: 1 to 8 VMs, 1 to 64 slots, the three tables of `bench/images.h`, the"
-    print "queue empty and full.\n"
+    print "Each event of the table above on each of these shapes, " commas(shapes) " calls: 1 to 8 VMs, 1 to 64 slots, three tables, the queue empty"
+    print "and full.\n"
     print "| | `core_live` | where |"
     print "|---|---|---|"
     print "| the dearest Tick | " commas(most["Tick"]) " | " at["Tick"] " |"

@@ -282,7 +282,8 @@ static void count_case(const test_case *t, size z) {
 /* Each case in each shape of a legal configuration: how many VMs and slots, which table, the queue empty or full. */
 static void count_shapes(void) {
     static const unsigned lengths[] = {1, 2, 3, 8, 15, 16, 17, 24, 32, 33, 48, 63, 64};
-    char shape[64];
+    static const char *const tables[] = {"every third slot spare", "no slot spare", "VM 0 in all slots but the last"};
+    char shape[96];
     for (unsigned vms = 1; vms <= CORE_VMS; vms++)
         for (unsigned k = 0; k < sizeof lengths / sizeof lengths[0]; k++)
             for (int t = MIXED; t <= LAST; t++)
@@ -296,7 +297,7 @@ static void count_shapes(void) {
                         if (full) c.spoiled = c.spoiled ? c.spoiled : FILL;
                         core_state from = state_from(&c, r.core);
                         if (!sound(&from)) continue;
-                        snprintf(shape, sizeof shape, "%u VMs, %u slots, table %d, queue %u", vms, z.slots, t, z.queue);
+                        snprintf(shape, sizeof shape, "%u VMs, %u slots, %s, %u queued", vms, z.slots, tables[t], from.queue.len);
                         name(c.event.kind == CORE_TICK ? "shape, Tick" : "shape", shape, c.name, "nothing");
                         loop_once(from, c.event);
                     }
