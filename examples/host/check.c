@@ -93,6 +93,10 @@ static core_answer send(core_state *core, uint8_t kind, uint8_t byte, uint32_t w
     return send_to(core, 1, event);
 }
 
+/*
+ * X2 up to event 10, with P1, a Fault and its notice (D23, A5); then a kind that is no event's, and a state that breaks W2
+ * and is refused with 1 (R1 to R3). Each event in every form (T9).
+ */
 static void worked_run(void)
 {
     core_begun begun = core_fresh(image, sizeof image);
@@ -125,6 +129,10 @@ static void worked_run(void)
     check("no event on such a state", a.refusal == 1);
 }
 
+/*
+ * An image of 332 bytes (S9), each place of it; a full queue (T5), the first tick (D1, D4), the number removed (A8); then the
+ * image is cut, and the core beside the fault refuses (I8, T7).
+ */
 static void full_run(void)
 {
     uint8_t b[332];

@@ -2,13 +2,14 @@
 
 mod common;
 
-use std::fs;
+use std::fs::{self, File};
 use std::io::Write;
 use std::process::{Command, Stdio};
 
 use common::{folder, shown, twin, worked_case, worked_lines};
 use twin::readable_text::print::text_of;
 
+/// N1, N9, X2: the run of the two files.
 #[test]
 fn pack_run_state_and_unpack() {
     let place = folder("pack");
@@ -23,6 +24,7 @@ fn pack_run_state_and_unpack() {
     assert_eq!(fs::read(&again).expect("made"), fs::read(&text).expect("made"));
 }
 
+/// No rule: the packing of a wrong text.
 #[test]
 fn a_bad_text_is_refused_with_its_line_and_makes_no_files() {
     let place = folder("bad-text");
@@ -36,6 +38,7 @@ fn a_bad_text_is_refused_with_its_line_and_makes_no_files() {
     assert!(twin(&["pack", shown(&text), shown(&files)]).2.contains("is not a text in UTF-8"));
 }
 
+/// N5, N8: no image, and no log.
 #[test]
 fn missing_files_count_as_empty_in_a_run() {
     let place = folder("missing");
@@ -47,6 +50,7 @@ fn missing_files_count_as_empty_in_a_run() {
     assert!(status == Some(1) && message.contains("has neither config.bin nor events.bin"), "{message}");
 }
 
+/// N10, N11: the stream through standard input and output.
 #[test]
 fn many_answers_a_torn_stream() {
     let mut child = Command::new(env!("CARGO_BIN_EXE_twin"))
@@ -63,6 +67,7 @@ fn many_answers_a_torn_stream() {
     assert!(output.status.success());
 }
 
+/// No rule: the arguments of the twin.
 #[test]
 fn wrong_arguments_are_named() {
     let wrong: [(&[&str], &str); 12] = [
@@ -86,6 +91,7 @@ fn wrong_arguments_are_named() {
     }
 }
 
+/// No rule: the making of cases.
 #[test]
 fn a_generated_case_can_be_made_again() {
     let place = folder("case");
@@ -95,4 +101,28 @@ fn a_generated_case_can_be_made_again() {
     assert_eq!(fs::read(place.join("events.bin")).expect("made"), maker.case(500).log);
     let expected = fs::read_to_string(place.join("expected")).expect("made");
     assert!(expected.ends_with(".\n") && expected.starts_with(&twin(&["state", shown(&place)]).1));
+}
+
+/// An output that nobody can read any more, so that nothing can be written to it.
+fn closed_output() -> Stdio {
+    let mut gone = Command::new("true").stdin(Stdio::piped()).spawn().expect("it starts");
+    let input = gone.stdin.take().expect("piped");
+    gone.wait().expect("it ends");
+    Stdio::from(input)
+}
+
+/// N12: a program whose output cannot be written ends without a word.
+#[test]
+fn an_output_that_cannot_be_written_is_no_matter() {
+    let place = folder("closed-output");
+    fs::write(place.join("stream"), [0; 4]).expect("written");
+    for command in ["run", "state", "report", "many"] {
+        let mut program = Command::new(env!("CARGO_BIN_EXE_twin"));
+        program.arg(command).current_dir(&place).stdin(File::open(place.join("stream")).expect("there"));
+        let printed = program.output().expect("the twin starts").stdout;
+        assert!(printed.starts_with(b"config 20 0\n"), "{command} has something to write");
+        program.stdin(File::open(place.join("stream")).expect("there")).stdout(closed_output());
+        let ended = program.output().expect("the twin starts");
+        assert_eq!((ended.status.code(), ended.stderr), (Some(0), Vec::new()), "{command}");
+    }
 }

@@ -48,6 +48,7 @@ fn compare_with(name: &str, options: &[&str]) -> (Outcome, PathBuf) {
     (Outcome { text, well: output.status.success() }, keep)
 }
 
+/// No rule: the comparison with a right program.
 #[test]
 fn the_twin_agrees_with_itself_and_reaches_every_point() {
     let many = format!("{TWIN} many");
@@ -60,6 +61,7 @@ fn the_twin_agrees_with_itself_and_reaches_every_point() {
     assert!(!keep.exists());
 }
 
+/// No rule: the comparison with a right report.
 #[test]
 fn the_reports_of_the_twin_agree_with_themselves_and_reach_every_point() {
     let (outcome, keep) = compare_reports("right-report", &format!("{TWIN} report"), "140", "60");
@@ -71,6 +73,7 @@ fn the_reports_of_the_twin_agree_with_themselves_and_reach_every_point() {
     assert!(!keep.exists());
 }
 
+/// N13, N18: a report that skips a missing log differs, and so is shown.
 #[test]
 fn a_wrong_report_is_reported_and_its_files_are_kept() {
     let report = format!("{TWIN} report --wrong SkipsMissingLog");
@@ -89,6 +92,7 @@ fn a_wrong_report_is_reported_and_its_files_are_kept() {
     assert!(std::fs::read(kept.join("got")).expect("kept").ends_with(b"idle 4\nticks 26\n"));
 }
 
+/// N13 to N20: a twin with one of these broken is told from the right one.
 #[test]
 fn every_wrong_report_is_found_by_the_fixed_folders() {
     let edges = edge_reports(4);
@@ -98,6 +102,7 @@ fn every_wrong_report_is_found_by_the_fixed_folders() {
     }
 }
 
+/// No rule: the comparison with programs that are no reports.
 #[test]
 fn reports_that_say_nothing_something_else_or_never_end_are_reported() {
     for (report, patience) in [("true", "60"), ("echo idle 0", "60"), ("sleep 60", "1")] {
@@ -109,6 +114,7 @@ fn reports_that_say_nothing_something_else_or_never_end_are_reported() {
     assert!(!outcome.well && outcome.text.contains("cannot start no-such-program-here"));
 }
 
+/// D11, M3: a `many` that delivers the lowest number differs, and so is shown.
 #[test]
 fn a_wrong_many_is_reported_and_its_files_are_kept() {
     let many = format!("{TWIN} many --wrong LowestNumberFirst");
@@ -127,6 +133,7 @@ fn a_wrong_many_is_reported_and_its_files_are_kept() {
     assert_ne!(expected, got);
 }
 
+/// No rule: the comparison with a wrong program that reads files.
 #[test]
 fn a_wrong_runlog_is_reported() {
     let (outcome, _) = compare("wrong-runlog", &format!("{TWIN} many"), &format!("{TWIN} state"), "200");
@@ -134,6 +141,7 @@ fn a_wrong_runlog_is_reported() {
     assert!(outcome.text.contains("program runlog\n"), "{}", outcome.text);
 }
 
+/// No rule: the comparison with programs that are no `many`.
 #[test]
 fn programs_that_say_nothing_something_else_or_never_end_are_reported() {
     for many in ["true", "cat", "sleep 60"] {
@@ -145,6 +153,7 @@ fn programs_that_say_nothing_something_else_or_never_end_are_reported() {
     assert!(!outcome.well && outcome.text.contains("cannot start no-such-program-here"));
 }
 
+/// No rule: the points that a comparison has to reach.
 #[test]
 fn too_few_cases_are_said_to_be_too_few() {
     let (outcome, _) = compare("few", &format!("{TWIN} many"), &format!("{TWIN} run"), "5");
@@ -152,6 +161,7 @@ fn too_few_cases_are_said_to_be_too_few() {
     assert!(outcome.text.contains("points were never reached"), "{}", outcome.text);
 }
 
+/// N13 to N20, M1 to M6: every easy mistake and every other wrong twin is told from the right one.
 #[test]
 fn every_wrong_twin_is_told_apart() {
     let (text, well) = selftest(1, 400);
@@ -163,6 +173,7 @@ fn every_wrong_twin_is_told_apart() {
     assert!(text.contains("NEVER told apart in 1 folders"));
 }
 
+/// I8, A4, A5, R1, D13: every fault, notice, code and refusal, and every number at every delivery.
 #[test]
 fn the_edge_cases_alone_reach_every_point() {
     for seed in 0..3 {
@@ -176,6 +187,7 @@ fn the_edge_cases_alone_reach_every_point() {
     assert!(!Coverage::default().missing().is_empty());
 }
 
+/// D27: an inject delivers each number, its own or another, or none.
 #[test]
 fn the_random_cases_alone_reach_every_point_of_service_2() {
     let maker = CaseMaker::new(1);
@@ -189,6 +201,7 @@ fn the_random_cases_alone_reach_every_point_of_service_2() {
     assert_eq!(never_reached(points), Vec::<String>::new());
 }
 
+/// A8: each kind of event that removes entries has none, one or more to remove.
 #[test]
 fn the_random_cases_alone_reach_every_point_of_removals() {
     let maker = CaseMaker::new(1);
@@ -202,6 +215,7 @@ fn the_random_cases_alone_reach_every_point_of_removals() {
     assert_eq!(never_reached(points), Vec::<String>::new());
 }
 
+/// No rule: the points that the folders have to reach.
 #[test]
 fn the_fixed_folders_alone_reach_every_point_of_the_reports() {
     for seed in 0..3 {
@@ -217,6 +231,7 @@ fn the_fixed_folders_alone_reach_every_point_of_the_reports() {
     assert!(all.len() > 20 && nothing.missing() == all, "a refused image without logs reaches nothing");
 }
 
+/// No rule: the making of cases.
 #[test]
 fn cases_depend_on_the_seed_and_the_number_alone() {
     let (one, again, other) = (CaseMaker::new(1), CaseMaker::new(1), CaseMaker::new(2));
@@ -226,6 +241,7 @@ fn cases_depend_on_the_seed_and_the_number_alone() {
     assert!(numbers.into_iter().all(|number| one.case(number) != other.case(number)));
 }
 
+/// No rule: the search for the first difference.
 #[test]
 fn the_first_parting_is_found() {
     let parting =

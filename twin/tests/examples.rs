@@ -23,6 +23,7 @@ fn files(example: &str) -> Case {
     Case { image: file(example, "config.bin"), log: file(example, "events.bin") }
 }
 
+/// No rule: the readable text of the examples.
 #[test]
 fn the_text_of_each_example_makes_its_files() {
     for name in NAMES {
@@ -31,6 +32,7 @@ fn the_text_of_each_example_makes_its_files() {
     }
 }
 
+/// A8, D7, D10, N3, N5, X2: extra time, a stopped VM, requests removed, a refused image.
 #[test]
 fn the_files_of_each_example_make_its_expected_output() {
     for name in NAMES {
@@ -40,12 +42,14 @@ fn the_files_of_each_example_make_its_expected_output() {
     }
 }
 
+/// X1, X2: the files of the worked example.
 #[test]
 fn the_first_example_is_the_worked_one() {
     assert_eq!(files("worked"), worked_case());
     assert_eq!(file("worked", "expected"), worked_lines().as_bytes());
 }
 
+/// No rule: the readable text of a report.
 #[test]
 fn the_text_of_the_league_evening_makes_its_files() {
     let folder = PathBuf::from(env!("CARGO_MANIFEST_DIR")).join("../examples/league");
@@ -54,6 +58,7 @@ fn the_text_of_the_league_evening_makes_its_files() {
     assert_eq!(ReportFolder::read(&folder).logs.len(), 3);
 }
 
+/// N14, N16 to N18: the report of three logs.
 #[test]
 fn the_files_of_the_league_evening_make_its_expected_report() {
     let logs = ["log00.bin", "log01.bin", "log02.bin"].map(|name| file("league", name));
@@ -63,6 +68,7 @@ fn the_files_of_the_league_evening_make_its_expected_report() {
     assert_eq!(file("league", "expected-report"), expected.as_bytes());
 }
 
+/// N15 to N18: the report of each log alone.
 #[test]
 fn the_figures_of_each_stint_are_those_in_the_text_of_the_league_evening() {
     let stints = [

@@ -2,7 +2,7 @@
 
 mod common;
 
-use common::{call, tick, worked_case, write};
+use common::{call, tick, worked_case, worked_events, write};
 use twin::core::event::Event;
 use twin::core::flaw::Flaw;
 use twin::generate::random::Random;
@@ -14,6 +14,7 @@ fn printed(image: &[u8], log: &[u8]) -> String {
     String::from_utf8(run_text(image, log, Detail::Lines, Flaw::None)).expect("ascii")
 }
 
+/// E1 to E10, L2, L4: each kind of record, whole and cut at each place.
 #[test]
 fn every_kind_has_its_bytes() {
     let records: [(Event, &[u8]); 9] = [
@@ -36,6 +37,7 @@ fn every_kind_has_its_bytes() {
     }
 }
 
+/// L3: the end of a log and places past it.
 #[test]
 fn a_place_at_the_end_or_past_it_is_the_end() {
     let log = log_of(&[Event::Start, tick(0)]);
@@ -45,6 +47,7 @@ fn a_place_at_the_end_or_past_it_is_the_end() {
     assert_eq!(read_record(&[], 0), Record::End);
 }
 
+/// E12, L2, L4, L5: random bodies are read whatever they hold, and no bit is lost.
 #[test]
 fn any_bytes_read_as_records_are_written_again_the_same() {
     let mut random = Random::of_case(3, 3);
@@ -64,6 +67,48 @@ fn any_bytes_read_as_records_are_written_again_the_same() {
     assert!(events > 10_000);
 }
 
+/// L1, L2, L4: record after record from its own place on; one that cannot be read is told by its place.
+#[test]
+fn a_log_is_read_record_by_record() {
+    let log = log_of(&worked_events());
+    let mut at = 0;
+    for event in worked_events() {
+        let next = at + log_of(&[event]).len();
+        assert_eq!(read_record(&log, at), Record::Event(event, next));
+        let unknown = [&log[..at], &[0x19], &log[at..]].concat();
+        assert_eq!(read_record(&unknown, at), Record::Unreadable(at));
+        at = next;
+    }
+    assert_eq!((read_record(&log, at), at), (Record::End, log.len()));
+}
+
+/// L4: of all kinds 0x10 to 0x18 are read, and no other.
+#[test]
+fn nine_kinds_are_known() {
+    for kind in 0..=255 {
+        let known = matches!(read_record(&[kind, 0, 0, 0, 0, 0, 0, 0, 0, 0], 0), Record::Event(..));
+        assert_eq!(known, (0x10..=0x18).contains(&kind), "kind {kind}");
+    }
+}
+
+/// E12, L5: every number of 8 bits is read as it stands, beside numbers with all 32 bits set.
+#[test]
+fn no_number_is_judged_or_shortened() {
+    for byte in 0..=255 {
+        let (vm, code, most) = (byte, byte, u32::MAX);
+        let masters =
+            [Event::Stop { vm }, Event::Shutdown { vm }, Event::Restart { vm }, Event::Extra { vm }];
+        let guests = [call(byte, most, most), write(byte, most), Event::Fault { code, data: most }];
+        for event in masters.into_iter().chain(guests) {
+            let log = log_of(&[event]);
+            assert_eq!(log[1], byte);
+            assert!(log[2..].iter().all(|part| *part == 255));
+            assert_eq!(read_record(&log, 0), Record::Event(event, log.len()));
+        }
+    }
+}
+
+/// L4, N7: a record that cannot be read, first and after other records.
 #[test]
 fn cut_names_the_number_that_the_line_would_have_had() {
     let image = worked_case().image;
@@ -72,11 +117,13 @@ fn cut_names_the_number_that_the_line_would_have_had() {
     assert_eq!(printed(&image, &[0x10, 0x10, 0x00, 0x10]), "1 0 - - - 0 0 0\n2 7 - - - 0 0 0\ncut 3\n");
 }
 
+/// L3, N2: no event, no line.
 #[test]
 fn an_empty_log_prints_nothing() {
     assert_eq!(printed(&worked_case().image, &[]), "");
 }
 
+/// S9, N5, N6: logs of 60,000 and 60,001 bytes, with images good and refused.
 #[test]
 fn the_length_is_tested_after_the_image() {
     let image = worked_case().image;

@@ -61,6 +61,7 @@ fn p12_core(flaw: Flaw) -> Core {
     core
 }
 
+/// A4, A8, D14, D18, P12, M6: each kind of event that removes entries, beside one of another VM.
 #[test]
 fn p12_each_of_the_six_removes_the_two_of_vm_0() {
     for (event, notice) in REMOVING.into_iter().zip([1, 0, 3, 2, 3, 3]) {
@@ -72,6 +73,7 @@ fn p12_each_of_the_six_removes_the_two_of_vm_0() {
     }
 }
 
+/// A2, A8, D14, P12: a Stop of a VM that waits; the running VM goes on.
 #[test]
 fn p12_stop_removes_the_one_of_vm_1() {
     let mut core = p12_core(Flaw::None);
@@ -83,6 +85,7 @@ fn p12_stop_removes_the_one_of_vm_1() {
     assert_eq!((answer.removed, core.state.queue.count), (2, 0));
 }
 
+/// A8, D18, D19: a Restart of a VM that waits; the running VM goes on.
 #[test]
 fn restart_of_a_vm_that_waits_removes_its_entries() {
     let mut core = p12_core(Flaw::None);
@@ -92,6 +95,7 @@ fn restart_of_a_vm_that_waits_removes_its_entries() {
     assert_eq!(core.apply(Event::Restart { vm: 1 }).removed, 0, "it has none left");
 }
 
+/// T5, A8: each number of entries in a full queue of sixteen.
 #[test]
 fn any_number_from_0_to_16_is_removed() {
     for own in 0..=16 {
@@ -105,6 +109,7 @@ fn any_number_from_0_to_16_is_removed() {
     }
 }
 
+/// E12, A8, D27, D28, D30: all services that there are not, and arguments over 31.
 #[test]
 fn every_service_and_argument_that_ends_its_vm_tells_the_number() {
     for service in (5..=255).chain([3]) {
@@ -121,6 +126,7 @@ fn every_service_and_argument_that_ends_its_vm_tells_the_number() {
     }
 }
 
+/// A8: other VMs' entries do not count, and stay.
 #[test]
 fn an_ending_without_entries_answers_0() {
     for event in REMOVING {
@@ -131,6 +137,7 @@ fn an_ending_without_entries_answers_0() {
     }
 }
 
+/// A8: every kind of event that leaves the entries in the queue.
 #[test]
 fn events_that_end_nobody_answer_0() {
     let mut events =
@@ -144,6 +151,7 @@ fn events_that_end_nobody_answer_0() {
     }
 }
 
+/// A8, R1, R3: six refusals while a VM runs.
 #[test]
 fn a_refusal_answers_0_whatever_stands_in_the_queue() {
     let refused = [
@@ -163,6 +171,7 @@ fn a_refusal_answers_0_whatever_stands_in_the_queue() {
     }
 }
 
+/// A8, R1, R3, R5: refusals 1, 4 and 5; a Restart of a stopped VM is none.
 #[test]
 fn a_refusal_while_nobody_runs_or_the_state_is_not_sound_answers_0() {
     let mut core = queued(3, &[0, 1, 1]);
@@ -180,6 +189,7 @@ fn a_refusal_while_nobody_runs_or_the_state_is_not_sound_answers_0() {
     assert_eq!(unsound.state.queue.entries(), [0, 1, 0]);
 }
 
+/// A6, A8, D29: full queues of sizes 0 to 16, with and without entries of the VM.
 #[test]
 fn service_4_with_a_full_queue_answers_0() {
     for vms in [&[][..], &[0], &[1, 0, 0], &[0; 16]] {
@@ -190,17 +200,19 @@ fn service_4_with_a_full_queue_answers_0() {
     }
 }
 
+/// A8, D7: an entry that is served is gone, and no removal tells of it.
 #[test]
 fn a_spare_tick_serves_its_entry_and_removes_nothing() {
-    let mut core = queued(4, &[0, 1, 0]);
+    let mut core = queued(4, &[0, 1, 1]);
     let ticks: Vec<_> = (0..7).map(|_| core.apply(tick(0))).collect();
     assert!(ticks.iter().all(|answer| answer.removed == 0));
     assert_eq!([2, 6].map(|spare: usize| ticks[spare].running), [Some(0), Some(1)]);
-    assert_eq!(core.state.queue.entries(), [0]);
-    assert_eq!(core.apply(Event::Stop { vm: 1 }).removed, 0, "its entry was served");
-    assert_eq!(core.apply(Event::Stop { vm: 0 }).removed, 1, "one of its two was served");
+    assert_eq!(core.state.queue.entries(), [1]);
+    assert_eq!(core.apply(Event::Stop { vm: 0 }).removed, 0, "its entry was served");
+    assert_eq!(core.apply(Event::Stop { vm: 1 }).removed, 1, "one of its two was served");
 }
 
+/// A8, D14: the others keep their order.
 #[test]
 fn the_queue_says_how_many_entries_it_took_out() {
     let mut queue = Queue::default();
@@ -213,6 +225,7 @@ fn the_queue_says_how_many_entries_it_took_out() {
     assert_eq!((queue.remove(0), queue.entries()), (1, &[7][..]));
 }
 
+/// A8, P12, M6: the five wrong counts beside the right one.
 #[test]
 fn the_wrong_counts_are_those_of_their_mistakes() {
     let told = |flaw| REMOVING.map(|event| p12_core(flaw).apply(event).removed);
@@ -227,6 +240,7 @@ fn the_wrong_counts_are_those_of_their_mistakes() {
     assert_eq!(ticks, [0, 0, 1, 0, 0]);
 }
 
+/// N3, N9: the lines of many runs, with states and without.
 #[test]
 fn n3_an_events_line_has_eight_parts_and_ends_in_the_number_removed() {
     let maker = CaseMaker::new(6);
@@ -363,6 +377,7 @@ fn balanced_cases() -> Vec<Case> {
     (0..maker.edge_count() + 400).map(|number| maker.case(number)).collect()
 }
 
+/// A8, C9: the balance after each event of many runs.
 #[test]
 fn c9_every_accepted_request_is_served_removed_or_still_standing() {
     let (mut all, mut standing) = (Requests::default(), 0);
@@ -378,6 +393,7 @@ fn c9_every_accepted_request_is_served_removed_or_still_standing() {
     assert!(enough, "{all:?}, {standing} standing");
 }
 
+/// No rule: the balance is a check that can fail, and does for each of the five wrong counts.
 #[test]
 fn c9_the_balance_does_not_hold_for_the_wrong_counts() {
     let cases = balanced_cases();
@@ -386,6 +402,7 @@ fn c9_the_balance_does_not_hold_for_the_wrong_counts() {
     }
 }
 
+/// No rule: the balance fails for an entry that goes untold.
 #[test]
 fn c9_a_lost_entry_upsets_the_balance() {
     let mut core = Core::fresh(small(2, 4), Flaw::None);

@@ -47,11 +47,13 @@ fn with_tail(log: Option<Vec<u8>>, tail: &[u8]) -> Option<Vec<u8>> {
     log.map(|log| [&log[..], tail].concat())
 }
 
+/// N15 to N18, X3: one log with every kind of tick.
 #[test]
 fn the_worked_example_has_its_figures() {
     assert_eq!(report(&[worked_log()]), WORKED);
 }
 
+/// N13: a missing log in the first, the second and the third place.
 #[test]
 fn n13_the_first_log_that_does_not_open_ends_the_list() {
     let one = ticking(1);
@@ -60,6 +62,7 @@ fn n13_the_first_log_that_does_not_open_ends_the_list() {
     assert_eq!(report(&[None, one.clone(), one]), NOTHING);
 }
 
+/// N13: fifteen, sixteen and seventeen logs.
 #[test]
 fn n13_sixteen_logs_are_read_and_no_more() {
     let sixteen = "0 16 0 0\n1 0 0 0\nidle 0\nticks 16\n";
@@ -68,6 +71,7 @@ fn n13_sixteen_logs_are_read_and_no_more() {
     assert_eq!(report(&vec![ticking(1); 17]), sixteen);
 }
 
+/// N14, N15: neither the state nor the place in the table goes over to the next log.
 #[test]
 fn n14_each_log_runs_from_fresh_and_the_figures_are_summed() {
     assert_eq!(report(&[worked_log(), worked_log()]), "0 4 2 2\n1 2 0 0\nidle 2\nticks 10\n");
@@ -78,6 +82,7 @@ fn n14_each_log_runs_from_fresh_and_the_figures_are_summed() {
     assert_eq!(report(&[ticking(1), log(&[tick(0), tick(0)])]), "0 1 0 0\n1 0 0 0\nidle 0\nticks 1\n");
 }
 
+/// N15: ticks before Start.
 #[test]
 fn n15_a_refused_tick_counts_for_nothing_and_moves_no_place() {
     let late = log(&[tick(0), tick(0), tick(0), Event::Start, tick(0), tick(0), tick(0)]);
@@ -85,6 +90,7 @@ fn n15_a_refused_tick_counts_for_nothing_and_moves_no_place() {
     assert_eq!(report(&[log(&[tick(0), tick(0)])]), NOTHING);
 }
 
+/// N15: three times through a table with a slot of two ticks.
 #[test]
 fn n15_the_table_begins_again_after_the_sum_of_all_durations() {
     assert_eq!(table_ticks(&worked_config()), [0, 0, 1, SPARE]);
@@ -92,6 +98,7 @@ fn n15_the_table_begins_again_after_the_sum_of_all_durations() {
     assert_eq!(report(&[ticking(11)]), "0 6 0 0\n1 3 0 0\nidle 2\nticks 11\n");
 }
 
+/// N16: a VM that has a tick of each kind.
 #[test]
 fn n16_a_tick_of_the_table_and_a_spare_tick_stand_apart() {
     let extra = Event::Extra { vm: 1 };
@@ -99,6 +106,7 @@ fn n16_a_tick_of_the_table_and_a_spare_tick_stand_apart() {
     assert_eq!(report(&[log(&events)]), "0 3 0 0\n1 1 1 0\nidle 0\nticks 5\n");
 }
 
+/// N16: VMs that end in a tick of their own and in a spare one.
 #[test]
 fn n16_a_vm_that_ends_within_a_tick_has_run_it() {
     let ends = [Event::Stop { vm: 0 }, Event::Fault { code: 3, data: 0 }, call(3, 0, 0), call(77, 0, 0)];
@@ -111,6 +119,7 @@ fn n16_a_vm_that_ends_within_a_tick_has_run_it() {
     assert_eq!(report(&[log(&in_spare)]), "0 2 0 0\n1 1 1 0\nidle 0\nticks 4\n");
 }
 
+/// N17: stopped VMs and an empty queue.
 #[test]
 fn n17_every_missed_tick_is_idle_and_an_idle_spare_tick_is_missed_by_nobody() {
     let stop = |vm| Event::Stop { vm };
@@ -120,6 +129,7 @@ fn n17_every_missed_tick_is_idle_and_an_idle_spare_tick_is_missed_by_nobody() {
     assert_eq!(report(&[log(&restarted)]), "0 1 0 1\n1 0 0 0\nidle 1\nticks 2\n");
 }
 
+/// N18: images of 1, 2, 7 and 8 VMs.
 #[test]
 fn n18_there_is_a_line_for_each_vm_of_the_image_and_no_other() {
     for vm_count in [1, 2, 7, 8] {
@@ -136,6 +146,7 @@ fn n18_there_is_a_line_for_each_vm_of_the_image_and_no_other() {
     }
 }
 
+/// L4, N19: unknown kinds and cut bodies, at the start of a log and behind ticks.
 #[test]
 fn n19_a_record_that_cannot_be_read_ends_its_own_log_alone() {
     let more = [&[0xff][..], &worked_case().log].concat();
@@ -147,6 +158,7 @@ fn n19_a_record_that_cannot_be_read_ends_its_own_log_alone() {
     assert_eq!(report(&[Some(more), worked_log()]), WORKED);
 }
 
+/// N20: four lengths over 60,000 bytes.
 #[test]
 fn n20_a_log_that_is_too_long_adds_nothing_and_ends_nothing() {
     let lengths = [60_001, 65_535, 65_536, 200_000];
@@ -158,6 +170,7 @@ fn n20_a_log_that_is_too_long_adds_nothing_and_ends_nothing() {
     }
 }
 
+/// S9, N20: the longest log, and sixteen of them.
 #[test]
 fn n20_a_log_of_60_000_bytes_runs() {
     let full = with_tail(ticking(11_999), &[0x10; 4]);
@@ -166,6 +179,7 @@ fn n20_a_log_of_60_000_bytes_runs() {
     assert_eq!(report(&vec![Some(vec![0x10; 60_000]); 16]), NOTHING);
 }
 
+/// N20: empty logs between others.
 #[test]
 fn n20_a_log_without_a_byte_is_a_log() {
     let empty = Some(Vec::new());
@@ -175,6 +189,7 @@ fn n20_a_log_without_a_byte_is_a_log() {
     assert_eq!(report(&[empty]), NOTHING);
 }
 
+/// N5, N21: four faults, with no logs and with several.
 #[test]
 fn n21_a_refused_image_prints_its_line_alone_whatever_the_logs_are() {
     let image = worked_case().image;
@@ -188,6 +203,7 @@ fn n21_a_refused_image_prints_its_line_alone_whatever_the_logs_are() {
     }
 }
 
+/// N21: no log, and none that opens.
 #[test]
 fn n21_with_no_log_at_all_every_figure_is_0() {
     assert_eq!(report(&[]), NOTHING);
@@ -212,6 +228,7 @@ fn ticks_by_owner(config: &Config, folder: &ReportFolder) -> [u64; 256] {
     counts
 }
 
+/// D10, N15 to N17: the figures of random folders, beside the slot in the core's own state.
 #[test]
 fn the_figures_of_any_folder_add_up() {
     let (mut judged, mut ticks) = (0, 0);

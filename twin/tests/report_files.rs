@@ -23,11 +23,13 @@ fn good(output: &str) -> (Option<i32>, String, String) {
     (Some(0), String::from(output), String::new())
 }
 
+/// N13: the names of the logs.
 #[test]
 fn logs_have_two_digits() {
     assert_eq!([0, 9, 10, 15].map(log_name), ["log00.bin", "log09.bin", "log10.bin", "log15.bin"]);
 }
 
+/// N8, N13, N20, N21, X3: logs that are missing, empty or folders, and no image.
 #[test]
 fn the_report_reads_the_files_in_its_folder() {
     let place = folder("report");
@@ -45,6 +47,7 @@ fn the_report_reads_the_files_in_its_folder() {
     assert_eq!(twin(&["report", shown(&place)]), good("config 20 0\n"));
 }
 
+/// N13, N14: seventeen files.
 #[test]
 fn sixteen_files_are_read_and_no_more() {
     let place = folder("report-sixteen");
@@ -55,6 +58,7 @@ fn sixteen_files_are_read_and_no_more() {
     assert_eq!(twin(&["report", shown(&place)]), good("0 32 16 16\n1 16 0 0\nidle 16\nticks 80\n"));
 }
 
+/// No rule: the folder that a report is compared in.
 #[test]
 fn files_of_the_case_before_are_gone() {
     let place = folder("report-leftovers");
@@ -71,6 +75,7 @@ fn files_of_the_case_before_are_gone() {
     assert_eq!(names, ["log00.bin", "log02.bin"]);
 }
 
+/// No rule: the readable text of a report, through files.
 #[test]
 fn pack_logs_and_unpack_logs_undo_each_other() {
     let place = folder("pack-logs");
@@ -87,6 +92,7 @@ fn pack_logs_and_unpack_logs_undo_each_other() {
     assert!(status == Some(1) && message.contains("has neither config.bin nor log00.bin"), "{message}");
 }
 
+/// No rule: the form of the readable text of a report.
 #[test]
 fn the_text_has_a_part_for_each_log() {
     let files = ReportFolder::of(&[4], [vec![0x10], vec![], vec![0x11, 1], vec![0x12, 7]]);
@@ -99,6 +105,7 @@ fn the_text_has_a_part_for_each_log() {
     assert_eq!((error.line, error.message.contains("no more logs than 16")), (17, true));
 }
 
+/// No rule: the readable text of a report keeps every byte.
 #[test]
 fn any_logs_come_back_from_their_text() {
     for number in 0..150 {
@@ -108,6 +115,7 @@ fn any_logs_come_back_from_their_text() {
     }
 }
 
+/// No rule: the making of folders.
 #[test]
 fn a_generated_folder_can_be_made_again() {
     let place = folder("case-logs");
@@ -120,6 +128,7 @@ fn a_generated_folder_can_be_made_again() {
     assert_eq!(twin(&["report", shown(&place)]), good(&expected));
 }
 
+/// No rule: the making of folders.
 #[test]
 fn folders_depend_on_the_seed_and_the_number_alone() {
     assert!((0..60).all(|number| generated_folder(1, number) == generated_folder(1, number)));

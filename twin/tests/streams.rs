@@ -5,7 +5,7 @@ mod common;
 use common::{worked_case, worked_lines};
 use twin::core::flaw::Flaw;
 use twin::run::frames::{answer_stream, frame_of, read_frame, Case, Frame};
-use twin::run::text::many_text;
+use twin::run::text::{many_text, run_text, Detail};
 
 fn answer(stream: &[u8]) -> Vec<u8> {
     let mut output = Vec::new();
@@ -18,6 +18,7 @@ fn worked_answer() -> Vec<u8> {
     many_text(&case.image, &case.log, Flaw::None)
 }
 
+/// N10: the head of a case, up to the greatest lengths.
 #[test]
 fn a_frame_has_its_lengths_in_front() {
     let frame = frame_of(&worked_case()).expect("short enough");
@@ -31,8 +32,11 @@ fn a_frame_has_its_lengths_in_front() {
     assert_eq!(frame_of(&Case { image: vec![], log: vec![0; 65_536] }), None);
 }
 
+/// N5, N6, N10: what follows the states, for good images and refused ones.
 #[test]
 fn the_answer_holds_the_lines_the_image_and_a_dot() {
+    let Case { image, log } = worked_case();
+    assert!(worked_answer().starts_with(&run_text(&image, &log, Detail::States, Flaw::None)));
     let text = String::from_utf8(worked_answer()).expect("ascii");
     let lines: Vec<&str> = text.lines().filter(|line| line.as_bytes()[0].is_ascii_digit()).collect();
     assert_eq!(lines, worked_lines().lines().collect::<Vec<_>>());
@@ -44,6 +48,7 @@ fn the_answer_holds_the_lines_the_image_and_a_dot() {
     assert!(long.starts_with(b"long\nimage 0102") && long.ends_with(b"04\n.\n"));
 }
 
+/// N10, N11: no case, one, two.
 #[test]
 fn a_stream_that_ends_between_frames_ends_quietly() {
     let frame = frame_of(&worked_case()).expect("short enough");
@@ -53,6 +58,7 @@ fn a_stream_that_ends_between_frames_ends_quietly() {
     assert_eq!(answer(&[0; 8]), b"config 20 0\n.\nconfig 20 0\n.\n");
 }
 
+/// N11: every place where a case can be torn.
 #[test]
 fn a_stream_that_ends_inside_a_frame_is_torn() {
     let frame = frame_of(&worked_case()).expect("short enough");

@@ -38,12 +38,14 @@ fn message(text: &str) -> (usize, String) {
     (error.line, error.message)
 }
 
+/// No rule: the readable text is the twin's own.
 #[test]
 fn the_worked_example_both_ways() {
     assert_eq!(text_of(&worked_case()), WORKED);
     assert_eq!(case_of(WORKED), Ok(worked_case()));
 }
 
+/// No rule: the form of the readable text.
 #[test]
 fn comments_spaces_and_both_kinds_of_numbers() {
     let text = "  # a comment\n\n core  vms 0x2 queue 1 # more\r\nraw 0a FF\nlog # here\n\ttick 4112\nraw";
@@ -52,6 +54,7 @@ fn comments_spaces_and_both_kinds_of_numbers() {
     assert_eq!(case.log, [0x11, 0x10, 0x10, 0, 0]);
 }
 
+/// No rule: the readable text keeps every byte.
 #[test]
 fn any_bytes_come_back() {
     let maker = CaseMaker::new(21);
@@ -66,12 +69,14 @@ fn any_bytes_come_back() {
     assert_eq!(text_of(&Case::default()), "\nlog\n");
 }
 
+/// No rule: the raw lines of the readable text.
 #[test]
 fn bytes_that_are_no_record_stand_raw() {
     let case = Case { image: vec![4, 9, 4], log: vec![0x10, 0x11, 1, 2] };
     assert_eq!(text_of(&case), "end\nraw 09 04\n\nlog\nstart\nraw 11 01 02\n");
 }
 
+/// No rule: the messages about a wrong text.
 #[test]
 fn errors_name_the_line_and_the_matter() {
     let wrong = [

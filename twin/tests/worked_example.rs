@@ -21,6 +21,7 @@ fn core_after(count: usize) -> Core {
     core
 }
 
+/// I1 to I6, I12, X1: each kind of record, its bytes and its place.
 #[test]
 fn image_is_the_34_bytes_and_is_written_again_as_such() {
     let image = worked_case().image;
@@ -36,6 +37,7 @@ fn image_is_the_34_bytes_and_is_written_again_as_such() {
     assert_eq!(buffer[34..], [0xaa; 6]);
 }
 
+/// N2, N3, X2: a line for each event, the refused one too.
 #[test]
 fn run_prints_the_13_lines() {
     let case = worked_case();
@@ -43,12 +45,14 @@ fn run_prints_the_13_lines() {
     assert_eq!(String::from_utf8(text).expect("ascii"), worked_lines());
 }
 
+/// D3, D8, D12, P1: the ten fields of VM 0 in its handler.
 #[test]
 fn p1_fields_after_event_10() {
     let core = core_after(10);
     assert_eq!(core.state.vms[0].fields, [4, 1, 0, 0, 0x1020, 7, 0x88, 0, 0x80, 3]);
 }
 
+/// D8, D9, P2: the number that is generated on each tick is delivered with the tick.
 #[test]
 fn p2_event_5_delivers_7_at_the_tick() {
     let mut core = core_after(4);
@@ -56,9 +60,12 @@ fn p2_event_5_delivers_7_at_the_tick() {
     assert_eq!((answer.delivered, answer.running, answer.address), (Some(7), Some(0), 0x1004));
 }
 
+/// A6, D29, P3: result 0 while there is room, then 1, and the queue stays as it is.
 #[test]
 fn p3_event_8_finds_the_queue_full() {
-    let mut core = core_after(7);
+    let mut core = core_after(6);
+    let answer = core.apply(worked_events()[6]);
+    assert_eq!((answer.refusal, answer.result), (0, 0));
     let before = core.state.queue;
     let answer = core.apply(worked_events()[7]);
     assert_eq!((answer.refusal, answer.result), (0, 1));
@@ -66,6 +73,7 @@ fn p3_event_8_finds_the_queue_full() {
     assert_eq!(core.state.queue.entries(), [0]);
 }
 
+/// R1 to R3, P4: refusal 3 shows the running VM, and the state stays.
 #[test]
 fn p4_event_11_names_no_vm_and_changes_nothing() {
     let mut core = core_after(10);
@@ -75,6 +83,7 @@ fn p4_event_11_names_no_vm_and_changes_nothing() {
     assert_eq!(core, before);
 }
 
+/// D4 to D6, P5: the table begins again, and a VM that is not ready only ages.
 #[test]
 fn p5_event_13_idles_in_the_slot_of_a_stopped_vm() {
     let core = core_after(13);
@@ -84,6 +93,7 @@ fn p5_event_13_idles_in_the_slot_of_a_stopped_vm() {
     assert_eq!((core.state.vms[0].age, core.state.vms[1].age), (5, 5));
 }
 
+/// D1, D2, N9, P1: the lines of whole states.
 #[test]
 fn states_of_the_first_and_the_tenth_event() {
     let case = worked_case();

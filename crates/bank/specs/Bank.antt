@@ -4,6 +4,7 @@ use lib.ListN.{getD, set}
 use mathlib.Core.List.{List, [], _∷_}
 use Rattle.guest.specs.declared.Vm.{Vm}
 
+-- T2
 unfoldable pub recordAt : List ℕ → List ℕ → ℕ → Vm
 recordAt standings words i =
     record {
@@ -14,6 +15,7 @@ recordAt standings words i =
       ran = getD words (i * 13 + 12) 0;
     }
 
+-- T1: the eight records
 unfoldable pub vmsOf : List ℕ → List ℕ → List Vm
 vmsOf standings words =
     recordAt standings words 0 ∷ recordAt standings words 1 ∷ recordAt standings words 2 ∷ recordAt standings words 3 ∷ recordAt standings words 4 ∷ recordAt standings words 5 ∷ recordAt standings words 6 ∷ recordAt standings words 7 ∷ []

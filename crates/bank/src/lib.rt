@@ -9,7 +9,7 @@ ghost use Rattle.guest.specs.Record.{fresh, isReady};
 ghost use Rattle.vms.specs.Records.{agedAll, startedAll};
 ghost use Rattle.vms.specs.Tick.{saving};
 
-// Record i; the fresh record past the last.
+// Record i (T2); the fresh record past the last.
 pub fn vm_at(standings: &[u8], words: &[u32], i: u8) -> Vm
     requires { ⌜ (length (now standings) ≡ 8) × (length (now words) ≡ 104) ⌝ }
     ensures { λ r. ⌜ r ≡ getD (vmsOf (now (standings .entry)) (now (words .entry))) i fresh ⌝ }
@@ -39,7 +39,7 @@ pub fn vm_at(standings: &[u8], words: &[u32], i: u8) -> Vm
     Vm::fresh()
 }
 
-// With another record i; past the last nothing changes.
+// With another record i (T2); past the last nothing changes.
 pub fn put_vm(standings: &mut [u8], words: &mut [u32], i: u8, v: Vm)
     requires { ⌜ (length (now standings) ≡ 8) × (length (now words) ≡ 104) ⌝ }
     ensures { λ _. ⌜ vmsOf (now (standings .exit)) (now (words .exit)) ≡ set (vmsOf (now (standings .entry)) (now (words .entry))) i v ⌝ }
@@ -65,7 +65,7 @@ pub fn put_vm(standings: &mut [u8], words: &mut [u32], i: u8, v: Vm)
     }
 }
 
-// Each of the first `count` records one tick older (D4).
+// Each of the first `count` records one tick older (D4), by a wrapping add (T4, K4).
 pub fn age_all(standings: &[u8], words: &mut [u32], count: u8)
     requires { ⌜ (length (now standings) ≡ 8) × (length (now words) ≡ 104) ⌝ }
     ensures { λ _. ⌜ vmsOf (now (standings .entry)) (now (words .exit)) ≡ agedAll count (vmsOf (now (standings .entry)) (now (words .entry))) ⌝ }
@@ -91,7 +91,7 @@ pub fn address_at(standings: &[u8], words: &[u32], i: u8) -> u32
     0
 }
 
-// Whether record i is ready; past the last none is.
+// Whether record i is ready (T3); past the last none is.
 pub fn ready_at(standings: &[u8], words: &[u32], i: u8) -> bool
     requires { ⌜ (length (now standings) ≡ 8) × (length (now words) ≡ 104) ⌝ }
     ensures { λ r. ⌜ r ≡ isReady (getD (vmsOf (now (standings .entry)) (now (words .entry))) i fresh) ⌝ }
@@ -127,7 +127,7 @@ pub fn start_all(standings: &mut [u8], words: &mut [u32], count: u8, entries: &[
     }
 }
 
-// The bank of eight records.
+// The bank of eight records (T1).
 pub fn spread(standings: &mut [u8], words: &mut [u32], vms: [Vm; 8])
     requires { ⌜ (length (now standings) ≡ 8) × (length (now words) ≡ 104) ⌝ }
     ensures { λ _. ⌜ vmsOf (now (standings .exit)) (now (words .exit)) ≡ vms ⌝ }
@@ -141,7 +141,7 @@ pub fn spread(standings: &mut [u8], words: &mut [u32], vms: [Vm; 8])
     }
 }
 
-// The eight records of a bank.
+// The eight records of a bank (T1).
 pub fn gather(standings: &[u8], words: &[u32]) -> [Vm; 8]
     requires { ⌜ (length (now standings) ≡ 8) × (length (now words) ≡ 104) ⌝ }
     ensures { λ r. ⌜ r ≡ vmsOf (now (standings .entry)) (now (words .entry)) ⌝ }

@@ -9,10 +9,11 @@ use native.Mathlib.Omega.{arith}
 use Rattle.basis.proofs.Laws.{getD-past}
 use Rattle.basis.specs.Numbers.{Bytes, half, halfBytes, word, wordBytes}
 
--- together again
+-- I1: together again
 pub half-whole : (n : ℕ) → n < 65536 → n % 256 + n / 256 % 256 * 256 ≡ n
 half-whole n h = omega arith
 
+-- I1, E1
 pub word-whole : (n : ℕ) → n < 2 ^ 32 → n % 256 + n / 256 % 256 * 256 + n / 65536 % 256 * 65536 + n / 16777216 % 256 * 16777216 ≡ n
 word-whole n h =
     let a : n / 65536 ≡ n / 256 / 256 = sym (div-div-eq-div-mul n 256 256) in

@@ -4,9 +4,11 @@ use Rattle.basis.specs.Nobody.{nobody}
 use Rattle.change.specs.declared.Answer.{Answer}
 use Rattle.change.specs.declared.Notice.{Notice}
 
+-- A1: a notice with its VM, code and data
 abbrev pub noticeWith : ℕ → ℕ → ℕ → ℕ → Notice
 noticeWith kind v code detail = record { kind = kind; vm = v; code = code; detail = detail }
 
+-- A4, A7
 abbrev pub noNotice : Notice
 noNotice = noticeWith 0 0 0 0
 

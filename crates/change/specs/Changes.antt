@@ -21,11 +21,11 @@ abbrev pub answerBy : Change → ℕ → ℕ → ℕ → Answer
 answerBy d refusal running address =
     record { refusal = refusal; running = running; address = address; delivered = d .delivered; notice = d .notice; result = d .result; removed = d .removed }
 
--- nobody, where v was running
+-- D15: nobody, where v was running
 unfoldable pub runningWithout : ℕ → ℕ → ℕ
 runningWithout running v = pick (eqb running v) nobody running
 
--- the queue without the entries of v
+-- D14: the queue without the entries of v
 abbrev pub queueWithout : Queue → ℕ → Queue
 queueWithout q v = removal v q .queue
 
@@ -43,20 +43,20 @@ abbrev pub endingFrom : ℕ → Queue → ℕ → Vm → ℕ → Notice → Chan
 endingFrom running queue v vm standing notice =
     record { place = v; vm = endedAs standing vm; running = runningWithout running v; queue = queueWithout queue v; delivered = nobody; notice = notice; result = 0; removed = removedOf queue v }
 
--- D23: the VM ends in error
+-- D23, A5: the VM ends in error; a Call that does so is done as well (R6)
 abbrev pub failingFrom : ℕ → Queue → ℕ → Vm → ℕ → ℕ → Change
 failingFrom running queue v vm code detail = endingFrom running queue v vm errorStanding (errorOf v code detail)
 
--- D18, D19, A8
+-- D18, D19, A8, from any standing (R5); by the manual a VM that is up would go on as it is (G4)
 abbrev pub restartingFrom : ℕ → Queue → ℕ → ℕ → Change
 restartingFrom running queue v entry =
     record { place = v; vm = startedAt entry; running = running; queue = queueWithout queue v; delivered = nobody; notice = noNotice; result = 0; removed = removedOf queue v }
 
--- D20: one entry of v joins the queue
+-- D20, D29: one entry of v joins the queue
 abbrev pub queueingFrom : ℕ → Queue → ℕ → Vm → Change
 queueingFrom running queue v vm = renewedFrom running (pushed v queue) v vm nobody
 
--- D29: the queue is full, and a Call is told so
+-- D29, A6: the queue is full, and a Call is told so
 abbrev pub turnedAwayFrom : ℕ → Queue → ℕ → Vm → Change
 turnedAwayFrom running queue v vm =
     record { place = v; vm = vm; running = running; queue = queue; delivered = nobody; notice = noNotice; result = 1; removed = 0 }
@@ -73,7 +73,7 @@ enteredAt who vm left handler = pick (ltb who 8) (enter left handler vm) (quiet 
 abbrev pub tickingFrom : Queue → ℕ → Vm → ℕ → ℕ → Change
 tickingFrom queue who vm left handler = deliveringFrom who queue who (enteredAt who vm left handler)
 
--- Call: D25 to D30, for VM v, whose next address is stored in vm
+-- Call: D25 to D30, for VM v, whose next address is stored in vm; service 2 takes 31 and fails with 32 (P10), and its delivery sees the number (P9)
 unfoldable pub calledFrom : ℕ → Queue → Bool → ℕ → ℕ → ℕ → ℕ → Vm → Change
 calledFrom running queue noRoom handler v service argument vm =
     pick (eqb service 0) (deliveringFrom running queue v (deliver handler vm))

@@ -85,7 +85,7 @@ impl Change {
         }
     }
 
-    // D14 to D16: the master stops it.
+    // D14 to D16, A4: the master stops it.
     pub fn stopping(v: u8, vm: Vm, running: u8, queue: Queue) -> Change
         ensures { λ r. ⌜ r ≡ endingFrom running queue v vm stoppedStanding (noticeOf 1 v) ⌝ }
     {
@@ -93,7 +93,7 @@ impl Change {
         Change::ending(v, vm, Vm::STOPPED, running, queue, told)
     }
 
-    // D23.
+    // D23, A4, A5.
     pub fn failing(v: u8, vm: Vm, running: u8, queue: Queue, code: u8, detail: u32) -> Change
         ensures { λ r. ⌜ r ≡ endingFrom running queue v vm errorStanding (errorOf v code detail) ⌝ }
     {
@@ -101,7 +101,7 @@ impl Change {
         Change::ending(v, vm, Vm::ERROR, running, queue, told)
     }
 
-    // D18, A8.
+    // D18, D19, A8.
     pub fn restarting(v: u8, entry: u32, running: u8, queue: Queue) -> Change
         ensures { λ r. ⌜ r ≡ restartingFrom running queue v entry ⌝ }
     {
@@ -128,7 +128,7 @@ impl Change {
         Change::renewed(v, vm, running, longer, Answer::NOTHING)
     }
 
-    // D29: the queue is full.
+    // D29, A6: the queue is full.
     pub fn turned_away(v: u8, vm: Vm, running: u8, queue: Queue) -> Change
         ensures { λ r. ⌜ r ≡ turnedAwayFrom running queue v vm ⌝ }
     {

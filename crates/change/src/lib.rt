@@ -41,6 +41,7 @@ pub struct Change {
 }
 
 impl Notice {
+    // A4, A5.
     pub fn told(kind: u8, vm: u8, code: u8, detail: u32) -> Notice
         ensures { λ r. ⌜ r ≡ noticeWith kind vm code detail ⌝ }
     {

@@ -26,7 +26,7 @@ abbrev pub nothingFrom : Clock → ℕ → Queue → List Vm → Bool
 nothingFrom clock running queue vms =
     both (every (λ k. not (readyOf vms k)) 8) (both (eqb (queue .len) 0) (both (eqb running nobody) (not (hasTicked clock))))
 
--- one line for each of W1 to W11, and W12
+-- one line for each of W1 to W11, and W12; no more is asked (W13)
 unfoldable pub soundFrom : Config → Clock → ℕ → Queue → List Vm → Bool
 soundFrom g clock running queue vms =
     both (legal g)

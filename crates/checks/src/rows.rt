@@ -16,7 +16,7 @@ pub fn of_start(started: u8) -> u8
     if started == Clock::YES { 7 } else { 0 }
 }
 
-// Tick.
+// Tick (R5).
 pub fn of_tick(started: u8) -> u8
     ensures { λ r. ⌜ r ≡ pick (not (eqb started 1)) 2 0 ⌝ }
 {
@@ -39,7 +39,7 @@ pub fn of_ready(started: u8, count: u8, v: u8, ready: bool) -> u8
     4
 }
 
-// Restart.
+// Restart, whatever the standing (R5).
 pub fn of_any(started: u8, count: u8, v: u8) -> u8
     ensures { λ r. ⌜ r ≡ pick (not (eqb started 1)) 2 (pick (not (ltb v count)) 3 0) ⌝ }
 {
@@ -52,7 +52,7 @@ pub fn of_any(started: u8, count: u8, v: u8) -> u8
     0
 }
 
-// Extra.
+// Extra; a queue of size 0 is always full (R4).
 pub fn of_request(started: u8, count: u8, v: u8, ready: bool, room: u8, queued: u8) -> u8
     ensures { λ r. ⌜ r ≡ pick (not (eqb started 1)) 2 (pick (not (ltb v count)) 3 (pick (not ready) 4 (pick (leb room queued) 6 0))) ⌝ }
 {

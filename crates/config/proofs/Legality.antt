@@ -132,7 +132,7 @@ rules-is c e =
       slots-empty = both-right (vmsRest c) _ e6;
     }
 
--- a configuration that passes the test keeps the rules
+-- S1 to S7: a configuration that passes the test keeps the rules
 pub legal-is : (c : Config) → legal c ≡ true → Legal c
 unfolding durationsFit ownersFit vmsServed hasSlot vmsRest slotsRest
 legal-is c e =
@@ -151,7 +151,7 @@ legal-is c e =
       slots-empty = λ k h l. empty-is (c .slots) k (ownerAt c k) (durationAt c k) (every-is _ 64 (r .slots-empty) k l) h;
     }
 
--- and a configuration that keeps the rules passes it
+-- S1 to S7: and a configuration that keeps the rules passes it
 pub legal-of : (c : Config) → Legal c → legal c ≡ true
 unfolding legal durationsFit ownersFit vmsServed hasSlot vmsRest slotsRest
 legal-of c l =

@@ -8,6 +8,7 @@ use Rattle.config.proofs.parts_legal.Reads as parts-reads
 use Rattle.config.proofs.Config.serves_all.Kinds as serves-kinds
 use Rattle.config.proofs.Config.serves_all.Reads as serves-reads
 
+-- C1, C2
 pub legal-one : OneAnswer 0 legal-kinds.ps legal-kinds.r legal-reads.Post
 legal-one κs a x y s t p q = p ∙ sym q
 

@@ -10,6 +10,7 @@ use Rattle.basis.specs.Choice.{both, pick}
 use Rattle.basis.specs.Count.{every, some}
 use Rattle.config.specs.Sizes.{emptyPast, lasts, names, slotFits}
 
+-- S4 to S7
 unfoldable pub placesFit : ℕ → ℕ → List ℕ → List ℕ → List ℕ → List ℕ → Bool
 placesFit count slots entries handlers owners durations =
     both (every (λ k. slotFits count (getD owners k 0) (getD durations k 0)) slots)

@@ -6,7 +6,7 @@ use mathlib.Core.Path.{_≡_}
 use Rattle.config.specs.Sizes.{durationAt, entryAt, handlerAt, legal, ownerAt}
 use Rattle.config.specs.declared.Config.{Config}
 
--- eight places for VMs and sixty-four for slots
+-- S7: eight places for VMs and sixty-four for slots
 pub record Sized (g : Config) : Type 0 where
   pub entries : length (g .entries) ≡ 8
   pub handlers : length (g .handlers) ≡ 8
@@ -17,7 +17,9 @@ pub record Sized (g : Config) : Type 0 where
 pub record Typed (c : Config) : Type 0 where
   pub sized : Sized c
   pub counts : (c .count < 256) × (c .room < 256) × (c .slots < 256)
+  -- S8: an address is any 32-bit number
   pub entry : (k : ℕ) → entryAt c k < 2 ^ 32
+  -- S8
   pub handler : (k : ℕ) → handlerAt c k < 2 ^ 32
   pub owner : (k : ℕ) → ownerAt c k < 256
   pub duration : (k : ℕ) → durationAt c k < 65536

@@ -8,7 +8,7 @@ ghost use Rattle.basis.specs.Choice.{both};
 ghost use Rattle.config.specs.Ranges.{Typed};
 ghost use Rattle.config.specs.Sizes.{configOf, legal, vmsServed, within};
 
-// A configuration. It has 8 places for VMs and 64 for slots.
+// A configuration. It has 8 places for VMs and 64 for slots (S7).
 #[repr(C)]
 pub struct Config {
     pub count: u8, // how many VMs
@@ -21,6 +21,7 @@ pub struct Config {
 }
 
 impl Config {
+    // The limits of S1 to S4 (K1).
     pub const VMS: u8 = 8;
 
     pub const ROOM: u8 = 16;
@@ -64,12 +65,12 @@ impl Config {
     }
 }
 
-// Each value of the struct is `Typed`: what the theorems about configurations ask for, every caller has.
+// Each value of the struct is `Typed` (S8): what the theorems about configurations ask for, every caller has.
 pub fn typed(c: Config)
     ensures { λ _. ⌜ Typed c ⌝ }
 {}
 
-// The same test of a configuration that is lent in its parts, so that nothing is copied.
+// The same test (S1 to S7) of a configuration that is lent in its parts, so that nothing is copied.
 pub fn parts_legal(
     count: u8,
     room: u8,

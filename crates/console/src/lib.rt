@@ -25,7 +25,7 @@ pub fn run_files(states: bool) {
     print_run(&image[..m], &log[..n], states, &mut out);
 }
 
-// Prints a run; false where standard output cannot be written.
+// Prints a run; false where standard output cannot be written (N12).
 pub fn print_run(image: &[u8], log: &[u8], states: bool, out: &mut [u8]) -> bool {
     let mut p = replay::begin(image, log);
     let mut turns: u32 = 60002;
@@ -45,7 +45,7 @@ pub fn print_run(image: &[u8], log: &[u8], states: bool, out: &mut [u8]) -> bool
     true
 }
 
-// Prints a case: the run with its states, the image written again where it was accepted, and a dot.
+// Prints a case (N10): the run with its states, the image written again where it was accepted, and a dot.
 pub fn print_case(image: &[u8], log: &[u8], out: &mut [u8]) -> bool {
     if !print_run(image, log, true, out) {
         return false;
@@ -56,7 +56,7 @@ pub fn print_case(image: &[u8], log: &[u8], out: &mut [u8]) -> bool {
     io::write_all(1, b".\n")
 }
 
-// Prints an image that is accepted, written again from its configuration. A buffer shorter than 2,048 bytes has no room for it.
+// Prints an image that is accepted, written again from its configuration (N10). A buffer shorter than 2,048 bytes has no room for it.
 fn print_again(image: &[u8], out: &mut [u8]) -> bool {
     let r = image_reader::read(image);
     if r.fault != 0 {

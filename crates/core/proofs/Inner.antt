@@ -61,11 +61,12 @@ module _ (c : Core) (e : Event) (n : ℕ) (r : After) (row : n ≡ rowOf c e) wh
   unfolding innerOf
   after-done h f = rw (← row, eq-eqb n 0 h) f
 
--- on a sound state the inner event is the event; any other is refused with 1
+-- R1: on a sound state the inner event is the event; any other is refused with 1
 pub step-sound : (c : Core) (e : Event) → sound c ≡ true → stepOf c e ≡ innerOf c e
 unfolding stepOf innerOf refusalOf
 step-sound c e h = rw h
 
+-- R1, row 1
 pub step-unsound : (c : Core) (e : Event) → sound c ≡ false → stepOf c e ≡ refused c 1
 unfolding stepOf refusalOf
 step-unsound c e h = rw h
@@ -108,7 +109,7 @@ whole s g t e h = rw (h, ← e)
 
 -- ---- a tick
 
--- the answer of a tick shows where the VM that runs goes on
+-- A2: the answer of a tick shows where the VM that runs goes on
 pub turn-address : (running at count owner head left : ℕ) (handlers : List ℕ) (l : List Vm)
     → turn running at count owner head left handlers l .address ≡ getD (turn running at count owner head left handlers l .vms) (turn running at count owner head left handlers l .who) fresh .address
 unfolding turn turnBy

@@ -10,12 +10,12 @@ use Rattle.core.specs.declared.Stepped.{Stepped}
 use Rattle.guest.specs.declared.Vm.{Vm}
 use Rattle.queue.specs.declared.Queue.{Queue}
 
--- A1, A2: the VM and its address are those after the event
+-- A1, A2: the VM and its address are those after the event; it is done, so its refusal number is 0 (R6)
 abbrev pub answering : Core → ℕ → Notice → ℕ → ℕ → Stepped
 answering c delivered notice result removed =
     record { core = c; answer = record { refusal = 0; running = c .running; address = addressOf c; delivered = delivered; notice = notice; result = result; removed = removed } }
 
--- record v replaced; who runs, and the queue
+-- K2: record v replaced; who runs, and the queue
 abbrev pub replaced : Core → ℕ → Vm → ℕ → Queue → Core
 replaced c v vm running queue = withQueue (withRunning (withVm c v vm) running) queue
 
@@ -26,14 +26,18 @@ changedBy c d = answering (replaced c (d .place) (d .vm) (d .running) (d .queue)
 abbrev pub renewed : Core → ℕ → Vm → ℕ → Change
 renewed c = renewedFrom (c .running) (c .queue)
 
+-- D14 to D16
 abbrev pub ending : Core → ℕ → Vm → ℕ → Notice → Change
 ending c = endingFrom (c .running) (c .queue)
 
+-- D23
 abbrev pub failing : Core → ℕ → Vm → ℕ → ℕ → Change
 failing c = failingFrom (c .running) (c .queue)
 
+-- D18, D19
 abbrev pub restarting : Core → ℕ → Change
 restarting c v = restartingFrom (c .running) (c .queue) v (entryAt (c .config) v)
 
+-- D20
 abbrev pub queueing : Core → ℕ → Vm → Change
 queueing c = queueingFrom (c .running) (c .queue)

@@ -44,6 +44,7 @@ tickTurn c at = turn (c .running) at (c .config .count) (tickOwner c) (frontOf (
 unfoldable pub tickQueue : Core → Queue
 tickQueue c = pick (isSpare (tickOwner c)) (ofList (rest (entries (c .queue)))) (c .queue)
 
+-- D3 to D9
 abbrev pub tickCore : Core → ℕ → Core
 tickCore c at = withVms (withQueue (withRunning (withClock c (tickClock c)) (tickTurn c at .who)) (tickQueue c)) (tickTurn c at .vms)
 
@@ -51,7 +52,7 @@ tickCore c at = withVms (withQueue (withRunning (withClock c (tickClock c)) (tic
 abbrev pub called : Core → ℕ → ℕ → ℕ → Vm → Change
 called c v = calledFrom (c .running) (c .queue) (full c) (handlerAt (c .config) v) v
 
--- what an event does that is not refused
+-- what an event does that is not refused; but for a Tick and some Calls nothing is delivered (D13), so by a Write nothing (D22)
 unfoldable pub done : Core → Event → Stepped
 done c Start = answering (startCore c) nobody noNotice 0 0
 done c (Tick at) = answering (tickCore c at) (tickTurn c at .number) noNotice 0 0
@@ -67,6 +68,6 @@ done c (Fault code detail) = changedBy c (failing c (c .running) (vmAt c (c .run
 unfoldable pub innerOf : Core → Event → Stepped
 innerOf c e = pick (eqb (rowOf c e) 0) (done c e) (refused c (rowOf c e))
 
--- an event: refused, or done
+-- T8, R1: an event: refused, or done
 unfoldable pub stepOf : Core → Event → Stepped
 stepOf c e = pick (eqb (refusalOf c e) 0) (done c e) (refused c (refusalOf c e))

@@ -13,7 +13,7 @@ ghost use Rattle.core.specs.Refusals.{refused};
 ghost use Rattle.core.specs.Sound.{sound};
 ghost use Rattle.core.specs.State.{freshCore};
 
-// The whole state (T1). `running` is a VM's number, or NOBODY.
+// The whole state (T1), of one processor core (G1), with the VM records in it by value (K2). `running` is a VM's number, or NOBODY.
 #[repr(C)]
 pub struct Core {
     pub config: Config,
@@ -23,7 +23,7 @@ pub struct Core {
     pub vms: [Vm; 8],
 }
 
-// The state after an event, with the answer.
+// The state after an event, with the answer (T8).
 #[repr(C)]
 pub struct Stepped {
     pub core: Core,
@@ -40,7 +40,7 @@ pub struct After {
 }
 
 impl Core {
-    // The fresh core of a configuration (T6). Built from an illegal one, it is not sound (T7).
+    // The fresh core of a configuration (T6), by an associated constructor (K1). Built from an illegal one, it is not sound (T7).
     pub fn fresh(config: Config) -> Core
         ensures { λ r. ⌜ r ≡ freshCore config ⌝ }
     {

@@ -6,61 +6,70 @@ ghost use mathlib.Core.Path.{_≡_};
 ghost use Rattle.core.specs.Events.{innerOf, stepOf};
 
 impl Core {
+    // D1, D2. Each event is a method that takes the state by value (K3).
     pub fn start(self) -> Stepped
         ensures { λ r. ⌜ r ≡ stepOf self Event.Start ⌝ }
     {
         self.step(Event::Start)
     }
 
+    // D3 to D9.
     pub fn tick(self, at: u32) -> Stepped
         ensures { λ r. ⌜ r ≡ stepOf self (Event.Tick at) ⌝ }
     {
         self.step(Event::Tick(at))
     }
 
+    // D14 to D16.
     pub fn stop(self, v: u8) -> Stepped
         ensures { λ r. ⌜ r ≡ stepOf self (Event.Stop v) ⌝ }
     {
         self.step(Event::Stop(v))
     }
 
+    // D17.
     pub fn shutdown(self, v: u8) -> Stepped
         ensures { λ r. ⌜ r ≡ stepOf self (Event.Shutdown v) ⌝ }
     {
         self.step(Event::Shutdown(v))
     }
 
+    // D18, D19.
     pub fn restart(self, v: u8) -> Stepped
         ensures { λ r. ⌜ r ≡ stepOf self (Event.Restart v) ⌝ }
     {
         self.step(Event::Restart(v))
     }
 
+    // D20.
     pub fn extra(self, v: u8) -> Stepped
         ensures { λ r. ⌜ r ≡ stepOf self (Event.Extra v) ⌝ }
     {
         self.step(Event::Extra(v))
     }
 
+    // D24 to D30.
     pub fn call(self, service: u8, argument: u32, next: u32) -> Stepped
         ensures { λ r. ⌜ r ≡ stepOf self (Event.Call service argument next) ⌝ }
     {
         self.step(Event::Call(service, argument, next))
     }
 
+    // D21, D22.
     pub fn write(self, offset: u8, value: u32) -> Stepped
         ensures { λ r. ⌜ r ≡ stepOf self (Event.Write offset value) ⌝ }
     {
         self.step(Event::Write(offset, value))
     }
 
+    // D23.
     pub fn fault(self, code: u8, detail: u32) -> Stepped
         ensures { λ r. ⌜ r ≡ stepOf self (Event.Fault code detail) ⌝ }
     {
         self.step(Event::Fault(code, detail))
     }
 
-    // Any event.
+    // Any event: the state after it, with the answer (T8), or its refusal (R1).
     pub fn step(self, e: Event) -> Stepped
         ensures { λ r. ⌜ r ≡ stepOf self e ⌝ }
     {

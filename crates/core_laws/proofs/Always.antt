@@ -67,6 +67,7 @@ run-good es c h = run-keeps Good good-step es c h
 pub always-good : (g : Config) → legal g ≡ true → Sized g → (es : List Event) → Good (run (freshCore g) es)
 always-good g h z es = run-good es (freshCore g) (good-fresh g h z)
 
+-- W1 to W12, in every run
 pub always-sound : (g : Config) → legal g ≡ true → Sized g → (es : List Event) → sound (run (freshCore g) es) ≡ true
 always-sound g h z es = sound-of (run (freshCore g) es) (always-good g h z es .facts)
 
@@ -74,6 +75,7 @@ always-sound g h z es = sound-of (run (freshCore g) es) (always-good g h z es .f
 pub always-row : (g : Config) → legal g ≡ true → Sized g → (es : List Event) (e : Event) → refusalOf (run (freshCore g) es) e ≡ rowOf (run (freshCore g) es) e
 always-row g h z es e = refusal-row (run (freshCore g) es) e (always-sound g h z es)
 
+-- R1: row 1 never applies in a run
 pub never-refused-1 : (g : Config) → legal g ≡ true → Sized g → (es : List Event) (e : Event) → stepOf (run (freshCore g) es) e .answer .refusal ≡ 1 → ⊥
 never-refused-1 g h z es e q =
     row-not-one (run (freshCore g) es) e (sym (always-row g h z es e) ∙ sym (step-number (run (freshCore g) es) e) ∙ q)

@@ -166,6 +166,7 @@ renewed-over c n s on v l vm r q w =
 
 -- ---- Start
 
+-- D1, D2
 pub start-sound : (c : Core) → length (c .vms) ≡ 8 → Sound c → isStarted (c .clock) ≡ false → Sound (startCore c)
 unfolding startCore
 start-sound c n s off =
@@ -330,7 +331,7 @@ module _ (c : Core) (p : Shaped c) (s : Sound c) where
       goes-on (a .0) (a .1) (write o x (vmAt c (c .running))) (write-standing o x (vmAt c (c .running))) (c .queue) (queued-now c s)
   done-sound (Fault k d) r = let a = row-fault c k d r in ends (a .0) (a .1) (endedAs 4 (vmAt c (c .running))) (omega arith)
 
--- every event keeps soundness
+-- W1 to W12: every event keeps them
 pub step-facts : (c : Core) (e : Event) → Shaped c → Sound c → Sound (stepOf c e .core)
 step-facts c e p s =
     step-case c e (λ x. Sound (x .core))

@@ -158,7 +158,7 @@ sound-is c e =
       standings = λ k h. leb-true (vmAt c k .standing) lastStanding (every-is _ 8 (both-right (leb (c .clock .ticked) 1) _ n) k h);
     }
 
--- and a state that keeps W1 to W12 passes it
+-- and a state that keeps W1 to W12 passes it: nothing beyond them is asked (W13)
 pub sound-of : (c : Core) → Sound c → sound c ≡ true
 unfolding queuedReady standingsKnown restFresh paddedOf
 sound-of c s =
@@ -256,7 +256,7 @@ module _ (c : Core) (n : length (c .vms) ≡ 8) (s : Sound c) where
         | no e ↦ inr (running-below e)
       ]
 
-  -- every standing is known, past the eight records too
+  -- T3, W12: every standing is known, past the eight records too
   pub standing-most : (k : ℕ) → vmAt c k .standing ≤ lastStanding
   standing-most k =
       elim (decLt k 8) [

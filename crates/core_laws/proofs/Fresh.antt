@@ -34,6 +34,7 @@ fresh-facts g l =
       standings = λ k h. rw (getD-replicate 8 k fresh fresh h) (omega arith);
     }
 
+-- T6
 pub fresh-sound : (g : Config) → legal g ≡ true → sound (freshCore g) ≡ true
 fresh-sound g h = sound-of (freshCore g) (fresh-facts g (legal-is g h))
 

@@ -61,6 +61,7 @@ done-place c =
     done-case c (λ e s. isTick e ≡ false → SamePlace (s .core .clock) (c .clock))
     (λ t. record { ticked = refl; slot = refl; left = refl }) (λ at t. false-true (sym t)) (λ e d i j t. same-place _ _ refl)
 
+-- D10, M2: no event but a Tick moves the table
 pub step-place : (c : Core) (e : Event) → isTick e ≡ false → SamePlace (stepOf c e .core .clock) (c .clock)
 step-place c e t =
     step-case c e (λ x. SamePlace (x .core .clock) (c .clock))
@@ -114,6 +115,7 @@ shaped-done c s (Call service argument next) =
 shaped-done c s (Write o x) = shaped-replaced c s _ _ _ _ (s .places)
 shaped-done c s (Fault k d) = shaped-replaced c s _ _ _ _ (without-places c s (c .running))
 
+-- T1, T5: eight records and sixteen places
 pub shaped-step : (c : Core) (e : Event) → Shaped c → Shaped (stepOf c e .core)
 shaped-step c e s =
     step-case c e (λ x. Shaped (x .core))

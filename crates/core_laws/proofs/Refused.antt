@@ -16,6 +16,7 @@ use Rattle.event.specs.declared.Event.{Event}
 
 -- ---- a refusal
 
+-- R2
 pub refused-core : (c : Core) (n : ℕ) → refused c n .core ≡ c
 unfolding refused
 refused-core c n = refl
@@ -42,6 +43,7 @@ refused-hides c = (refl, refl)
 
 -- ---- an event done
 
+-- R1, R6: the refusal number of an event that is done is 0, that of a Call which puts its VM in error too
 pub done-number : (c : Core) (e : Event) → done c e .answer .refusal ≡ 0
 done-number c = done-case c (λ e s. s .answer .refusal ≡ 0) refl (λ at. refl) (λ e d i j. refl)
 
@@ -52,7 +54,7 @@ done-shows c =
 
 -- ---- an event
 
--- the answer's refusal number is that of the first row that applies
+-- R1: the answer's refusal number is that of the first row that applies
 pub step-number : (c : Core) (e : Event) → stepOf c e .answer .refusal ≡ refusalOf c e
 step-number c e =
     step-case c e (λ s. s .answer .refusal ≡ refusalOf c e)
@@ -86,7 +88,7 @@ step-shows c e s =
     never : (n : ℕ) → refusalOf c e ≡ n → n ≡ 1 → ⊥
     never n q h = row-not-one c e (sym (refusal-row c e s) ∙ q ∙ h)
 
--- row 1 is for states that are not sound, and for them alone
+-- R1: row 1 is for states that are not sound, and for them alone
 pub refusal-one : (c : Core) (e : Event) → refusalOf c e ≡ 1 → sound c ≡ false
 refusal-one c e h = go (sound c) refl
   where

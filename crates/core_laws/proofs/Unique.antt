@@ -70,6 +70,7 @@ core-write-one κs a x y s t p q = p ∙ sym q
 pub core-fault-one : OneAnswer 0 core-fault-kinds.ps core-fault-kinds.r core-fault-reads.Post
 core-fault-one κs a x y s t p q = p ∙ sym q
 
+-- C1, C2
 pub core-step-one : OneAnswer 0 core-step-kinds.ps core-step-kinds.r core-step-reads.Post
 core-step-one κs a x y s t p q = p ∙ sym q
 

@@ -81,6 +81,7 @@ step-done c e s r = step-went c e (eq-eqb (refusalOf c e) 0 (accepted-of c e s r
 pub step-refused : (c : Core) (e : Event) → (refusalOf c e ≡ 0 → ⊥) → stepOf c e ≡ refused c (refusalOf c e)
 step-refused c e h = step-turned c e (ne-eqb (refusalOf c e) 0 h)
 
+-- R1
 pub view : (c : Core) (e : Event) → View c e (stepOf c e)
 unfolding stepOf
 view c e =
@@ -168,6 +169,7 @@ row-restart c v r =
     let a = row-begun c _ r in
     (a .0, row-known c v _ (a .1) .0)
 
+-- R1, R4: an Extra that is done found room
 pub row-extra : (c : Core) (v : ℕ) → rowOf c (Extra v) ≡ 0
     → (isStarted (c .clock) ≡ true) × (v < c .config .count) × (readyAt c v ≡ true) × (c .queue .len < c .config .room)
 unfolding rowOf
@@ -204,6 +206,7 @@ pub start-row : (c : Core) → isStarted (c .clock) ≡ false → rowOf c Start 
 unfolding rowOf
 start-row c h = rw h
 
+-- R5: once the core is started, a Tick is done
 pub tick-row : (c : Core) (at : ℕ) → isStarted (c .clock) ≡ true → rowOf c (Tick at) ≡ 0
 unfolding rowOf
 tick-row c at h = rw h
@@ -216,6 +219,7 @@ pub shutdown-row : (c : Core) (v : ℕ) → isStarted (c .clock) ≡ true → v 
 unfolding rowOf
 shutdown-row c v h l y = rw (h, lt-ltb v (c .config .count) l, y)
 
+-- R5: whatever the standing of the VM
 pub restart-row : (c : Core) (v : ℕ) → isStarted (c .clock) ≡ true → v < c .config .count → rowOf c (Restart v) ≡ 0
 unfolding rowOf
 restart-row c v h l = rw (h, lt-ltb v (c .config .count) l)
@@ -224,6 +228,7 @@ pub extra-row : (c : Core) (v : ℕ) → isStarted (c .clock) ≡ true → v < c
 unfolding rowOf
 extra-row c v h l y f = rw (h, lt-ltb v (c .config .count) l, y, lt-leb (c .config .room) (c .queue .len) f)
 
+-- R6: a Call of the VM that runs is done, whatever its service and argument
 pub call-row : (c : Core) (s n a : ℕ) → isStarted (c .clock) ≡ true → (c .running ≡ nobody → ⊥) → rowOf c (Call s n a) ≡ 0
 unfolding rowOf
 call-row c s n a h i = rw (h, ne-eqb (c .running) nobody i)

@@ -186,7 +186,7 @@ pub whole-law : (g : Config) (standings words : List ℕ) (p : Stand) (l : List 
     → record { config = g; clock = p .clock; running = p .running; queue = p .queue; vms = l } ≡ coreOf g standings words p
 whole-law g standings words p l h = rw h
 
--- a state is what its bank and the rest stand for
+-- T1: a state is what its bank and the rest stand for
 pub core-is : (c : Core) (standings words : List ℕ) (p : Stand) → vmsOf standings words ≡ c .vms → p ≡ standOf c → coreOf (c .config) standings words p ≡ c
 core-is c standings words p h k = rw (h, k)
 

@@ -27,7 +27,7 @@ stand-of-one κs a x y s t p q = p ∙ sym q
 pub whole-one : OneAnswer 2 whole-kinds.ps whole-kinds.r whole-reads.Post
 whole-one κs a x y s t p q = p ∙ sym q
 
--- the records in the bank, and who runs, the clock, the queue and the answer
+-- C1, C2: the records in the bank, and who runs, the clock, the queue and the answer
 pub step-one : (κs : Lfts 6) (a : Dens κs step-kinds.ps) (x y : resT step-kinds.r κs .Denot) (s t : AtExit (endedOf 6 step-kinds.ps step-kinds.r) κs)
     → step-reads.Post κs a x s → step-reads.Post κs a y t → (vmsOf (now (s .0)) (now (s .1 .0)) ≡ vmsOf (now (t .0)) (now (t .1 .0))) × (x ≡ y)
 step-one κs a x y s t p q =

@@ -42,7 +42,7 @@ coreOf g standings words p = record { config = g; clock = p .clock; running = p 
 abbrev pub leftBy : Config → List ℕ → List ℕ → Moved → Stepped
 leftBy g standings words m = record { core = coreOf g standings words (m .stand); answer = m .answer }
 
--- an event from one bank to another: refused, or done
+-- T8, R1: an event from one bank to another: refused, or done
 pub record Moves (g : Config) (standings words standings′ words′ : List ℕ) (p : Stand) (e : Event) (m : Moved) : Type 0 where
   pub same : leftBy g standings′ words′ m ≡ innerOf (coreOf g standings words p) e
 
@@ -50,7 +50,7 @@ pub record Moves (g : Config) (standings words standings′ words′ : List ℕ)
 pub record Does (g : Config) (standings words standings′ words′ : List ℕ) (p : Stand) (e : Event) (m : Moved) : Type 0 where
   pub same : leftBy g standings′ words′ m ≡ done (coreOf g standings words p) e
 
--- an event that row n refuses
+-- R2, R3: an event that row n refuses
 abbrev pub refusedAt : List ℕ → List ℕ → Stand → ℕ → Moved
 refusedAt standings words p n = record { stand = p; answer = quietly n (p .running) (getD (vmsOf standings words) (p .running) fresh .address) }
 

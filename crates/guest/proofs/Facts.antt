@@ -90,15 +90,17 @@ by-number : (h : ℕ) (v : Vm) (d : Found) → deliverBy h v d .number ≡ d
 by-number h v Nothing = refl
 by-number h v (At n) = refl
 
--- what is delivered is what was due
+-- D11: what is delivered is what was due
 pub deliver-number : (h : ℕ) (v : Vm) → deliver h v .number ≡ due (v .status)
 unfolding deliver
 deliver-number h v = by-number h v (due (v .status))
 
+-- D11: nothing happens where nothing is due
 pub deliver-quiet : (h : ℕ) (v : Vm) → due (v .status) ≡ Nothing → deliver h v ≡ quiet v
 unfolding deliver
 deliver-quiet h v e = ap (deliverBy h v) e
 
+-- D12
 pub deliver-hit : (h n : ℕ) (v : Vm) → due (v .status) ≡ At n → deliver h v ≡ record { vm = interrupt n h v; number = At n }
 unfolding deliver
 deliver-hit h n v e = ap (deliverBy h v) e
@@ -113,18 +115,22 @@ pub enter-age : (l h : ℕ) (v : Vm) → enter l h v .vm .age ≡ v .age
 unfolding enter shown
 enter-age l h v = deliver-age h (shown l v)
 
+-- T4, D8
 pub enter-ran : (l h : ℕ) (v : Vm) → enter l h v .vm .ran ≡ (v .ran + 1) % 2 ^ 32
 unfolding enter shown
 enter-ran l h v = deliver-ran h (shown l v)
 
+-- D8: the field shows the age
 pub enter-since : (l h : ℕ) (v : Vm) → enter l h v .vm .status .since ≡ v .age
 unfolding enter shown
 enter-since l h v = deliver-since h (shown l v)
 
+-- D8
 pub enter-left : (l h : ℕ) (v : Vm) → enter l h v .vm .status .left ≡ l
 unfolding enter shown
 enter-left l h v = deliver-left h (shown l v)
 
+-- D8: the field shows the ticks run, whatever it held
 pub enter-running : (l h : ℕ) (v : Vm) → enter l h v .vm .status .running ≡ (v .ran + 1) % 2 ^ 32
 unfolding enter shown
 enter-running l h v = deliver-running h (shown l v)
@@ -139,10 +145,12 @@ pub write-address : (o x : ℕ) (v : Vm) → write o x v .address ≡ v .address
 unfolding write
 write-address o x v = refl
 
+-- T4: no Write reaches the age
 pub write-age : (o x : ℕ) (v : Vm) → write o x v .age ≡ v .age
 unfolding write
 write-age o x v = refl
 
+-- T4: nor the ticks run
 pub write-ran : (o x : ℕ) (v : Vm) → write o x v .ran ≡ v .ran
 unfolding write
 write-ran o x v = refl
@@ -167,6 +175,7 @@ status-kept : (a b c d e f g h i j : Bool) (x : ℕ) (s : Status) → a ≡ fals
     }) s
 status-kept a b c d e f g h i j x s p q r t u v w y z o = rw (p, q, r, t, u, v, w, y, z, o)
 
+-- F1 to F10: at no other offset is a field
 pub write-none : (o x : ℕ) (v : Vm) → isField o ≡ false → write o x v ≡ v
 unfolding write stored isField
 write-none o x v e =
@@ -198,7 +207,7 @@ pend-ran n v = pend-keeps (λ w. w .ran) n v refl
 pub pend-enabled : (n : ℕ) (v : Vm) → pend n v .status .enabled ≡ v .status .enabled
 pend-enabled n v = pend-keeps (λ w. w .status .enabled) n v refl
 
--- what it is for
+-- D17, D27: what it is for
 pub pend-pending : (n : ℕ) (v : Vm) → n ≤ 31 → pend n v .status .pending ≡ setBit n (v .status .pending)
 unfolding pend
 pend-pending n v h = rw (le-leb n 31 h)

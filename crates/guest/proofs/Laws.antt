@@ -122,11 +122,12 @@ module _ (p : ℕ → Bool) where
 abbrev pub inBoth : Status → ℕ → Bool
 inBoth s n = both (bit n (s .pending)) (bit n (s .enabled))
 
--- the number is below 32, pending and enabled, and no higher one is
+-- D11: the number is below 32, pending and enabled, and no higher one is
 pub due-is : (s : Status) (n : ℕ) → due s ≡ At n → (n < 32) × (inBoth s n ≡ true) × ((k : ℕ) → n < k → k < 32 → inBoth s k ≡ false)
 unfolding due
 due-is s n e = at-is _ 32 n e
 
+-- D11: none is
 pub due-nothing : (s : Status) → due s ≡ Nothing → (k : ℕ) → k < 32 → inBoth s k ≡ false
 unfolding due
 due-nothing s e = none-is _ 32 e

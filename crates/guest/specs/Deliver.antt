@@ -10,11 +10,11 @@ use Rattle.guest.specs.declared.Found.{Found}
 use Rattle.guest.specs.declared.Status.{Status}
 use Rattle.guest.specs.declared.Vm.{Vm}
 
--- D11: the highest number that is pending and enabled
+-- D11: the highest number that is pending (F4) and enabled (F3)
 unfoldable pub due : Status → Found
 due s = highest (λ n. both (bit n (s .pending)) (bit n (s .enabled))) 32
 
--- D12, the fields: n is the reason, the others stay pending, all are disabled
+-- D12, the fields (F3 to F7): n is the reason, the others stay pending, all are disabled
 abbrev pub statusAt : ℕ → ℕ → Status → Status
 statusAt n at s =
     record {
@@ -35,9 +35,11 @@ abbrev pub interrupt : ℕ → ℕ → Vm → Vm
 interrupt n handler v =
     record { standing = v .standing; address = handler; status = statusAt n (v .address) (v .status); age = v .age; ran = v .ran }
 
+-- D11: nothing is delivered
 abbrev pub quiet : Vm → Delivery
 quiet v = record { vm = v; number = Nothing }
 
+-- D11, D12, by what is due
 abbrev pub deliverBy : ℕ → Vm → Found → Delivery
 deliverBy handler v Nothing = quiet v
 deliverBy handler v (At n) = record { vm = interrupt n handler v; number = At n }
@@ -46,7 +48,7 @@ deliverBy handler v (At n) = record { vm = interrupt n handler v; number = At n 
 unfoldable pub deliver : ℕ → Vm → Delivery
 deliver handler v = deliverBy handler v (due (v .status))
 
--- D8: three fields show the core's own numbers, and the bits of ontick join pending
+-- D8: three fields (F1, F2, F10) show the core's own numbers, and the bits of ontick (F9) join pending (F4)
 abbrev pub statusIn : ℕ → ℕ → ℕ → Status → Status
 statusIn age left ran s =
     record {
@@ -62,10 +64,11 @@ statusIn age left ran s =
       running = ran;
     }
 
--- D8: one tick more that ran it, modulo 2 ^ 32
+-- T4, D8, P11: one tick more that ran it, modulo 2 ^ 32
 abbrev pub ranOne : Vm → ℕ
 ranOne v = (v .ran + 1) % 2 ^ 32
 
+-- D8
 unfoldable pub shown : ℕ → Vm → Vm
 shown left v =
     record { standing = v .standing; address = v .address; status = statusIn (v .age) left (ranOne v) (v .status); age = v .age; ran = ranOne v }
@@ -74,6 +77,7 @@ shown left v =
 unfoldable pub enter : ℕ → ℕ → Vm → Delivery
 enter left handler v = deliver handler (shown left v)
 
+-- D26, the fields (F3, F7); restore (F8) is not read (G3)
 abbrev pub statusBack : Status → Status
 statusBack s =
     record {

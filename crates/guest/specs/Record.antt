@@ -7,7 +7,7 @@ use Rattle.guest.specs.Bits.{setBit}
 use Rattle.guest.specs.declared.Status.{Status}
 use Rattle.guest.specs.declared.Vm.{Vm}
 
--- T3: the standings, as numbers; the first is that of a VM that was never started
+-- T3, N9: the standings, as numbers; the first is that of a VM that was never started
 abbrev pub noStanding : ℕ
 noStanding = 0
 
@@ -38,6 +38,7 @@ fresh = record { standing = noStanding; address = 0; status = blank; age = 0; ra
 abbrev pub startedAt : ℕ → Vm
 startedAt entry = record { standing = readyStanding; address = entry; status = blank; age = 0; ran = 0 }
 
+-- T3
 abbrev pub isReady : Vm → Bool
 isReady v = eqb (v .standing) readyStanding
 
@@ -71,7 +72,7 @@ isFresh v =
 abbrev pub savedAt : ℕ → Vm → Vm
 savedAt at v = record { standing = v .standing; address = at; status = v .status; age = v .age; ran = v .ran }
 
--- D4: one tick older, modulo 2 ^ 32
+-- T4, D4: one tick older, modulo 2 ^ 32
 abbrev pub older : Vm → Vm
 older v = record { standing = v .standing; address = v .address; status = v .status; age = (v .age + 1) % 2 ^ 32; ran = v .ran }
 

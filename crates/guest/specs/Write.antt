@@ -7,11 +7,11 @@ use Rattle.guest.specs.Record.{withStatus}
 use Rattle.guest.specs.declared.Status.{Status}
 use Rattle.guest.specs.declared.Vm.{Vm}
 
--- 0, 4, 8, .. 36
+-- F1 to F10: 0, 4, 8, .. 36
 unfoldable pub isField : ℕ → Bool
 isField offset = both (eqb (offset % 4) 0) (leb offset 36)
 
--- the field with that offset takes the value
+-- D21, F1 to F10: the field with that offset takes the value
 unfoldable pub stored : ℕ → ℕ → Status → Status
 stored offset x s =
     record {
@@ -27,5 +27,6 @@ stored offset x s =
       running = pick (eqb offset 36) x (s .running);
     }
 
+-- D21; the counts are out of reach (T4)
 unfoldable pub write : ℕ → ℕ → Vm → Vm
 write offset x v = withStatus v (stored offset x (v .status))

@@ -7,7 +7,7 @@ ghost use Rattle.basis.specs.Bits.{bit};
 ghost use Rattle.guest.specs.Bits.{clearBit, setBit};
 ghost use Rattle.guest.specs.Deliver.{due};
 
-// D11: from 31 down to 0, the first that is set in both fields, or none.
+// D11, K7: from 31 down to 0, the first that is set in both fields, or none.
 pub fn due(status: Status) -> Found
     ensures { λ r. ⌜ r ≡ due status ⌝ }
 {

@@ -9,7 +9,7 @@ ghost use Rattle.guest.specs.Deliver.{backFrom, deliver, enter, interrup
 ghost use Rattle.guest.specs.Record.{blank, endedAs, fresh, isFresh, isReady, older, pend, savedAt, startedAt};
 ghost use Rattle.guest.specs.Write.{isField, stored, write};
 
-// A pseudo-interrupt's number, or none.
+// A pseudo-interrupt's number, 0 among them, or none (A3).
 pub enum Found {
     Nothing,
     At(u8),
@@ -30,7 +30,7 @@ pub struct Status {
     pub running: u32, // F10, ticksWhileRunning
 }
 
-// A VM record (T2).
+// A VM record (T2): all that the core knows of a VM (G2).
 #[repr(C)]
 pub struct Vm {
     pub standing: u8, // NONE, or one of the four of T3
@@ -90,6 +90,7 @@ impl Vm {
         }
     }
 
+    // T3.
     pub fn is_ready(self) -> bool
         ensures { λ r. ⌜ r ≡ isReady self ⌝ }
     {
@@ -128,6 +129,7 @@ impl Vm {
         if on { self.older() } else { self }
     }
 
+    // D4, by a wrapping add (K4).
     fn older(self) -> Vm
         ensures { λ r. ⌜ r ≡ older self ⌝ }
     {
@@ -203,7 +205,7 @@ impl Vm {
         v
     }
 
-    // D8. The fields show the core's own numbers: what the VM wrote there counts for nothing.
+    // D8, by a wrapping add (K4). The fields show the core's own numbers: what the VM wrote there counts for nothing.
     fn shown(self, left: u32) -> Vm
         ensures { λ r. ⌜ r ≡ shown left self ⌝ }
     {
@@ -251,7 +253,7 @@ impl Vm {
         v
     }
 
-    // D21.
+    // D21, F1 to F10.
     pub fn written(self, offset: u8, value: u32) -> Vm
         ensures { λ r. ⌜ r ≡ write offset value self ⌝ }
     {

@@ -1,9 +1,7 @@
--- The law of one moment of ours: the queue by the event's effect, whom a tick runs, what the history shows of the effect, and what it removes.
+-- The law of one moment of ours: the queue by the event's effect, whom a tick runs, and what is removed.
 use Prim.Native.Nat.{ℕ, _<_, _≤_}
 use borrow.Author.Tests.{le-leb, leb-false, lt-leb, ne-eqb}
-use lib.Dec.{eqb}
-use lib.ListN.{getD, set}
-use mathlib.Core.Bool.{Bool, false, not, true}
+use mathlib.Core.Bool.{Bool, false, true}
 use mathlib.Core.Path.{ap, refl, _∙_, _≡_}
 use native.Mathlib.Omega.{arith}
 use Rattle.basis.proofs.Laws.{false-true}
@@ -22,24 +20,15 @@ use Rattle.core.specs.declared.Stepped.{Stepped}
 use Rattle.core_laws.proofs.View.{call-case, row-extra, step-case}
 use Rattle.event.specs.declared.Event.the-variants.{Call, Extra, Fault, Restart, Shutdown, Start, Stop, Tick, Write}
 use Rattle.event.specs.declared.Event.{Event}
-use Rattle.guest.specs.Record.{endedAs, fresh, isReady, savedAt}
-use Rattle.history.proofs.Counts.{eqb-same}
+use Rattle.guest.specs.Record.{savedAt}
 use Rattle.history.proofs.Steps.{Reached, tick-owner}
 use Rattle.history.specs.History.{Moment, moment, momentOf, ticking}
-use Rattle.history.specs.Moments.{asks, ends, naming, spare}
-use Rattle.history.specs.Queueing.{Add, Effect, Keep, Remove, Take, affected, effect, removedFrom}
+use Rattle.history.specs.Queueing.{affected, effect, removedFrom}
 use Rattle.queue.proofs.Meaning.{entries-popped, entries-pushed, entries-without}
 use Rattle.queue.specs.Entries.{entries, frontOf, others}
 use Rattle.table.specs.Place.{tableAt}
-use Rattle.vms.proofs.Records.{stored-unready, turn-who}
+use Rattle.vms.proofs.Records.{turn-who}
 use Rattle.vms.specs.Tick.{runnerOf}
-
--- what the history shows of an effect
-abbrev pub Backs : Config → Moment → Effect → Type 0
-Backs g m Keep = spare g m ≡ false
-Backs g m Take = spare g m ≡ true
-Backs g m (Add w) = (spare g m ≡ false) × (asks w m ≡ true)
-Backs g m (Remove w) = (spare g m ≡ false) × (ends w m ≡ true)
 
 -- D6, D7, by the state before the tick
 abbrev pub runnerBy : Core → ℕ → ℕ
@@ -48,7 +37,6 @@ runnerBy c owner = runnerOf owner (frontOf (entries (c .queue))) (c .vms)
 pub record Lawful (g : Config) (m : Moment) : Type 0 where
   pub queue : entries (m .after .queue) ≡ affected (effect g m) (entries (m .before .queue))
   pub ran : ticking m ≡ true → m .answer .running ≡ runnerBy (m .before) (tableAt g (m .ticks))
-  pub backed : Backs g m (effect g m)
   pub removed : m .answer .removed ≡ removedFrom (effect g m) (entries (m .before .queue))
 
 module _ (g : Config) (d : Given g) (k : ℕ) (c : Core) (p : Reached g k c) where
@@ -59,35 +47,35 @@ module _ (g : Config) (d : Given g) (k : ℕ) (c : Core) (p : Reached g k c) whe
       ap-le e h = omega (arith, h, ap (λ (x : Config). x .room) e)
 
   refused-law : (e : Event) (n : ℕ) → (n ≡ 0 → ⊥) → Lawful g (momentOf k c e (refused c n))
-  unfolding refused effect naming
-  refused-law e n h = let z = ne-eqb n 0 h in record { queue = rw z; ran = λ t. false-true (rw z at t); backed = rw z (rw z); removed = rw z }
+  unfolding refused effect
+  refused-law e n h = let z = ne-eqb n 0 h in record { queue = rw z; ran = λ t. false-true (rw z at t); removed = rw z }
 
   tick-law : (at : ℕ) → Lawful g (momentOf k c (Tick at) (done c (Tick at)))
-  unfolding effect naming done tickQueue tickTurn
+  unfolding effect done tickQueue tickTurn
   tick-law at = go (isSpare (tableAt g k)) refl (tick-owner g d k c p)
     where
       who : tickOwner c ≡ tableAt g k → tickTurn c at .who ≡ runnerBy c (tableAt g k)
       who e = turn-who (c .running) at (c .config .count) (tickOwner c) (frontOf (entries (c .queue))) (tickClock c .left) (c .config .handlers) (c .vms) ∙ ap (λ (o : ℕ). runnerBy c o) e
 
       go : (b : Bool) → isSpare (tableAt g k) ≡ b → tickOwner c ≡ tableAt g k → Lawful g (momentOf k c (Tick at) (done c (Tick at)))
-      go true q e = record { queue = rw (e, q) (entries-popped (c .queue)); ran = λ z. who e; backed = rw q (rw q); removed = rw q }
-      go false q e = record { queue = rw (e, q); ran = λ z. who e; backed = rw q (rw q); removed = rw q }
+      go true q e = record { queue = rw (e, q) (entries-popped (c .queue)); ran = λ z. who e; removed = rw q }
+      go false q e = record { queue = rw (e, q); ran = λ z. who e; removed = rw q }
 
   -- a Call, by its service
   call-law : (s n at : ℕ) → Lawful g (momentOf k c (Call s n at) (done c (Call s n at)))
-  unfolding effect naming done ends asks
+  unfolding effect done
   call-law s n at =
       call-case P (c .running) (c .queue) (full c) (handlerAt (c .config) (c .running)) (c .running) s n (savedAt at (vmAt c (c .running)))
-      (λ h. record { queue = rw h; ran = λ z. false-true z; backed = rw h refl; removed = rw h })
-      (λ h. record { queue = rw h; ran = λ z. false-true z; backed = rw h refl; removed = rw h })
-      (λ h i. (let l = le-leb n 31 i in record { queue = rw (h, l); ran = λ z. false-true z; backed = rw (h, l) refl; removed = rw (h, l) }))
-      (λ h i. (let l = lt-leb n 31 i in record { queue = rw (h, l) without; ran = λ z. false-true z; backed = rw (h, l) (refl, gone 4 refl); removed = rw (h, l) }))
-      (λ h. record { queue = rw h without; ran = λ z. false-true z; backed = rw h (refl, gone 3 refl); removed = rw h })
-      (λ h i. record { queue = rw h; ran = λ z. false-true z; backed = rw h refl; removed = rw h })
+      (λ h. record { queue = rw h; ran = λ z. false-true z; removed = rw h })
+      (λ h. record { queue = rw h; ran = λ z. false-true z; removed = rw h })
+      (λ h i. (let l = le-leb n 31 i in record { queue = rw (h, l); ran = λ z. false-true z; removed = rw (h, l) }))
+      (λ h i. (let l = lt-leb n 31 i in record { queue = rw (h, l) without; ran = λ z. false-true z; removed = rw (h, l) }))
+      (λ h. record { queue = rw h without; ran = λ z. false-true z; removed = rw h })
+      (λ h i. record { queue = rw h; ran = λ z. false-true z; removed = rw h })
       (λ h i. (let few : c .queue .len < 16 = omega (arith, leb-false (c .config .room) (c .queue .len) i, room-few) in
-      record { queue = rw h (entries-pushed (c .running) (c .queue) few); ran = λ z. false-true z; backed = rw h (refl, eqb-same (c .running)); removed = rw h }))
+      record { queue = rw h (entries-pushed (c .running) (c .queue) few); ran = λ z. false-true z; removed = rw h }))
       (λ h. (let a = lt-leb s 1 (omega arith) in let b = ne-eqb s 2 (λ e. omega arith) in let f = ne-eqb s 4 (λ e. omega arith) in
-      record { queue = rw (a, b, f) without; ran = λ z. false-true z; backed = rw (a, b, f) (refl, gone 4 refl); removed = rw (a, b, f) }))
+      record { queue = rw (a, b, f) without; ran = λ z. false-true z; removed = rw (a, b, f) }))
     where
       P : Change → Type 0
       P x = Lawful g (momentOf k c (Call s n at) (changedBy c x))
@@ -95,24 +83,21 @@ module _ (g : Config) (d : Given g) (k : ℕ) (c : Core) (p : Reached g k c) whe
       without : entries (queueWithout (c .queue) (c .running)) ≡ others (c .running) (entries (c .queue))
       without = entries-without (c .running) (c .queue)
 
-      gone : (t : ℕ) → eqb t 1 ≡ false → not (isReady (getD (set (c .vms) (c .running) (endedAs t (savedAt at (vmAt c (c .running))))) (c .running) fresh)) ≡ true
-      gone t e = ap not (stored-unready (c .vms) (c .running) (endedAs t (savedAt at (vmAt c (c .running)))) e)
-
   done-law : (e : Event) → rowOf c e ≡ 0 → Lawful g (momentOf k c e (done c e))
-  unfolding effect naming done ends asks startCore
-  done-law Start r = record { queue = refl; ran = λ z. false-true z; backed = refl; removed = refl }
+  unfolding effect done startCore
+  done-law Start r = record { queue = refl; ran = λ z. false-true z; removed = refl }
   done-law (Tick at) r = tick-law at
   done-law (Stop v) r =
-      record { queue = entries-without v (c .queue); ran = λ z. false-true z; backed = (refl, ap not (stored-unready (c .vms) v (endedAs 2 (vmAt c v)) refl)); removed = refl }
-  done-law (Shutdown v) r = record { queue = refl; ran = λ z. false-true z; backed = refl; removed = refl }
-  done-law (Restart v) r = record { queue = entries-without v (c .queue); ran = λ z. false-true z; backed = (refl, rw (eqb-same v)); removed = refl }
+      record { queue = entries-without v (c .queue); ran = λ z. false-true z; removed = refl }
+  done-law (Shutdown v) r = record { queue = refl; ran = λ z. false-true z; removed = refl }
+  done-law (Restart v) r = record { queue = entries-without v (c .queue); ran = λ z. false-true z; removed = refl }
   done-law (Extra v) r =
       let few : c .queue .len < 16 = omega (arith, row-extra c v r .3, room-few) in
-      record { queue = entries-pushed v (c .queue) few; ran = λ z. false-true z; backed = (refl, eqb-same v); removed = refl }
+      record { queue = entries-pushed v (c .queue) few; ran = λ z. false-true z; removed = refl }
   done-law (Call s n at) r = call-law s n at
-  done-law (Write o x) r = record { queue = refl; ran = λ z. false-true z; backed = refl; removed = refl }
+  done-law (Write o x) r = record { queue = refl; ran = λ z. false-true z; removed = refl }
   done-law (Fault n x) r =
-      record { queue = entries-without (c .running) (c .queue); ran = λ z. false-true z; backed = (refl, ap not (stored-unready (c .vms) (c .running) (endedAs 4 (vmAt c (c .running))) refl)); removed = refl }
+      record { queue = entries-without (c .running) (c .queue); ran = λ z. false-true z; removed = refl }
 
   pub lawful : (e : Event) → Lawful g (moment stepOf k c e)
   lawful e = step-case c e (λ (s : Stepped). Lawful g (momentOf k c e s)) (λ n q h. refused-law e n h) (λ s r. done-law e r)

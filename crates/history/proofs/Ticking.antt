@@ -1,10 +1,9 @@
 -- What one lawful moment says of a VM: whom a tick runs, and what a spare tick takes out of the queue.
 use Prim.Native.Nat.{ℕ, _<_}
 use borrow.Author.Tests.{eq-eqb, eqb-true, ne-eqb}
-use lib.Dec.{eqb}
 use mathlib.Core.Bool.{Bool, false, true}
 use mathlib.Core.List.{List, _∷_}
-use mathlib.Core.Path.{ap, refl, subst, sym, _∙_, _≡_}
+use mathlib.Core.Path.{ap, refl, sym, _∙_, _≡_}
 use native.Mathlib.Omega.{arith}
 use Rattle.basis.proofs.Laws.{both-left, both-right, false-true}
 use Rattle.basis.specs.Choice.{pick}
@@ -13,12 +12,11 @@ use Rattle.config.specs.Sizes.{isSpare}
 use Rattle.config.specs.declared.Config.{Config}
 use Rattle.core.specs.State.{readyAt}
 use Rattle.core.specs.declared.Core.{Core}
-use Rattle.event.specs.declared.Event.the-variants.{Call, Extra, Fault, Restart, Shutdown, Start, Stop, Tick, Write}
-use Rattle.event.specs.declared.Event.{Event}
-use Rattle.history.proofs.Lawful.{Backs, Lawful, runnerBy}
-use Rattle.history.specs.History.{Moment, ticking, went}
-use Rattle.history.specs.Moments.{asks, isRequest, naming, runs, spare}
-use Rattle.history.specs.Queueing.{Add, Effect, Keep, Remove, Take, affected, effect, effectBy, ofService}
+use Rattle.history.proofs.Effects.{asks-is, isAdd, isTake, spare-is}
+use Rattle.history.proofs.Lawful.{Lawful, runnerBy}
+use Rattle.history.specs.History.{Moment, ticking}
+use Rattle.history.specs.Moments.{asks, naming, runs, spare}
+use Rattle.history.specs.Queueing.{Add, Effect, Keep, Remove, Take, affected, effect}
 use Rattle.queue.proofs.Counts.{front-rest}
 use Rattle.queue.specs.Entries.{entries, frontOf, rest}
 use Rattle.table.specs.Place.{tableAt}
@@ -40,13 +38,13 @@ module _ (g : Config) (v : ℕ) (small : v < nobody) (m : Moment) (l : Lawful g 
 
   -- a spare tick takes the oldest entry
   pub spare-takes : spare g m ≡ true → entries (m .after .queue) ≡ rest (entries (m .before .queue))
-  spare-takes h = go (effect g m) (l .backed) (l .queue)
+  spare-takes h = go (effect g m) (sym (spare-is g m) ∙ h) (l .queue)
     where
-      go : (f : Effect) → Backs g m f → entries (m .after .queue) ≡ affected f (entries (m .before .queue)) → entries (m .after .queue) ≡ rest (entries (m .before .queue))
-      go Keep k q = false-true (sym k ∙ h)
+      go : (f : Effect) → isTake f ≡ true → entries (m .after .queue) ≡ affected f (entries (m .before .queue)) → entries (m .after .queue) ≡ rest (entries (m .before .queue))
+      go Keep k q = false-true k
       go Take k q = q
-      go (Add w) k q = false-true (sym (k .0) ∙ h)
-      go (Remove w) k q = false-true (sym (k .0) ∙ h)
+      go (Add w) k q = false-true k
+      go (Remove w) k q = false-true k
 
   pub spare-front : spare g m ≡ true → m .answer .running ≡ frontOf (entries (m .before .queue))
   spare-front h = let t = tick-of nobody h in l .ran (t .0) ∙ runner-spare (m .before) (tableAt g (m .ticks)) (eq-eqb (tableAt g (m .ticks)) nobody (t .1))
@@ -79,25 +77,11 @@ module _ (g : Config) (v : ℕ) (small : v < nobody) (m : Moment) (l : Lawful g 
       (s, front-rest v (entries (m .before .queue)) small (handed-front s r) ∙ ap (λ (q : List ℕ). v ∷ q) (sym (spare-takes s)))
 
 -- an accepted request joins the queue
-
 pub asks-adds : (g : Config) (v : ℕ) (m : Moment) → asks v m ≡ true → effect g m ≡ Add v
-unfolding asks effect
-asks-adds g v m h =
-    let a = both-left (went m) _ h in
-    rw a (by (m .event) (both-right (went m) _ h))
+asks-adds g v m h = go (effect g m) (sym (asks-is g m v) ∙ h)
   where
-    by : (e : Event) → isRequest v (m .before) (m .answer) e ≡ true → effectBy g m e ≡ Add v
-    by Start i = false-true i
-    by (Tick at) i = false-true i
-    by (Stop w) i = false-true i
-    by (Shutdown w) i = false-true i
-    by (Restart w) i = false-true i
-    by (Extra w) i = ap Add (eqb-true w v i)
-    by (Call s n at) i =
-        (let a : s ≡ 4 = eqb-true s 4 (both-left (eqb s 4) _ i) in
-        let j = both-right (eqb s 4) _ i in
-        let r = both-left (eqb (m .answer .result) 0) _ j in
-        let w = eqb-true (m .before .running) v (both-right (eqb (m .answer .result) 0) _ j) in
-        subst (λ (x : ℕ). ofService (m .before .running) x n (m .answer .result) ≡ Add v) (sym a) (rw r (ap Add w)))
-    by (Write o x) i = false-true i
-    by (Fault k x) i = false-true i
+    go : (f : Effect) → isAdd v f ≡ true → f ≡ Add v
+    go Keep k = false-true k
+    go Take k = false-true k
+    go (Add w) k = ap Add (eqb-true w v k)
+    go (Remove w) k = false-true k

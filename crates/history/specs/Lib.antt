@@ -1,3 +1,4 @@
 pub mod History
 pub mod Moments
 pub mod Queueing
+pub mod Telling

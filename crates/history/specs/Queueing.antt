@@ -18,7 +18,7 @@ pub data Effect : Type 0 where
   Keep Take : Effect
   Add Remove : ℕ → Effect
 
--- D25 to D30, for the VM v that calls, by the result
+-- D25 to D30: for the VM v that calls, by the result
 abbrev pub ofService : ℕ → ℕ → ℕ → ℕ → Effect
 ofService v service argument result =
     pick (leb service 1) Keep
@@ -26,6 +26,7 @@ ofService v service argument result =
     (pick (eqb service 4) (pick (eqb result 0) (Add v) Keep)
     (Remove v)))
 
+-- D7, D14, D18, D20, D23: what each event does to the queue
 abbrev pub effectBy : Config → Moment → Event → Effect
 effectBy g m Start = Keep
 effectBy g m (Tick at) = pick (isSpare (tableAt g (m .ticks))) Take Keep
@@ -64,7 +65,7 @@ isRemove v (Remove w) = eqb w v
 abbrev pub removes : Config → ℕ → Moment → Bool
 removes g v m = isRemove v (effect g m)
 
--- how many entries of v were removed in ms, as the answers tell
+-- A8, C9: how many entries of v were removed in ms, as the answers tell
 unfoldable pub removedIn : Config → ℕ → List Moment → ℕ
 removedIn g v [] = 0
 removedIn g v (m ∷ ms) = pick (removes g v m) (m .answer .removed) 0 + removedIn g v ms

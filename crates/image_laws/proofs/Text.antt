@@ -33,13 +33,14 @@ front-nine (a ∷ b ∷ c ∷ []) h = absurd (omega arith)
 front-nine (a ∷ b ∷ c ∷ d ∷ []) h = absurd (omega arith)
 front-nine (a ∷ b ∷ c ∷ d ∷ e ∷ bs) h = ap (λ (x : List ℕ). a ∷ b ∷ c ∷ d ∷ e ∷ x) (front-four bs (omega arith))
 
--- a record's bytes are what is written for its numbers
+-- I4: a record's bytes are what is written for its numbers
 pub slot-text : (bs : List ℕ) → Bytes bs → getD bs 0 0 ≡ 3 → 4 ≤ length bs → bs ≡ slotBytes (getD bs 1 0) (half bs 2) ++ drop 4 bs
 slot-text bs y k h =
     front-four bs h
     ∙ ap (λ (x : ℕ). x ∷ getD bs 1 0 ∷ getD bs 2 0 ∷ getD bs 3 0 ∷ drop 4 bs) k
     ∙ ap (λ (x : List ℕ). 3 ∷ getD bs 1 0 ∷ (x ++ drop 4 bs)) (sym (half-apart (getD bs 2 0) (getD bs 3 0) (y 2) (y 3)))
 
+-- I3
 pub vm-text : (bs : List ℕ) → Bytes bs → getD bs 0 0 ≡ 2 → 9 ≤ length bs → bs ≡ vmBytes (word bs 1) (word bs 5) ++ drop 9 bs
 vm-text bs y k h =
     front-nine bs h

@@ -22,19 +22,19 @@ use Rattle.image_reader.specs.declared.Reading.{Reading}
 use Rattle.image_writer.proofs.Puts.{image-length}
 use Rattle.image_writer.specs.Writer.{answerFor, bufferAfter, image, unwritten}
 
--- reading what is written from a legal configuration gives that configuration
+-- C6: reading what is written from a legal configuration gives that configuration
 pub image-read : (c : Config) → Typed c → legal c ≡ true → readImage (image c) ≡ accepted c
 image-read c t e = trip c t e
 
--- writing what was accepted gives the same bytes
+-- C6: writing what was accepted gives the same bytes
 pub read-image : (bs : List ℕ) (c : Config) → Bytes bs → readImage bs ≡ accepted c → image c ≡ bs
 read-image bs c y e = back-bytes bs c y e
 
--- what is accepted is legal
+-- S1 to S7: what is accepted is legal
 pub read-legal : (bs : List ℕ) (c : Config) → Bytes bs → readImage bs ≡ accepted c → legal c ≡ true
 read-legal bs c y e = back-legal bs c y e
 
--- and a value of the struct
+-- S8: and a value of the struct
 pub read-typed : (bs : List ℕ) (c : Config) → Bytes bs → readImage bs ≡ accepted c → Typed c
 read-typed bs c y e = back-typed bs c y e
 
@@ -54,6 +54,7 @@ read-whole bs e = answer-accepted bs e
 pub read-zeros : (bs : List ℕ) → (readImage bs .fault ≡ 0 → ⊥) → readImage bs .config ≡ noConfig
 read-zeros bs h = answer-refused bs h
 
+-- I10: which is not legal
 pub zeros-illegal : legal noConfig ≡ false
 unfolding legal
 zeros-illegal = refl
@@ -66,6 +67,7 @@ read-either bs y = (λ e. read-legal bs (readImage bs .config) y (read-whole bs 
 pub image-short : (c : Config) → legal c ≡ true → length (image c) ≤ 332
 image-short c e = let l = legal-is c e in omega (arith, image-length c, l .vms .1, l .table .1)
 
+-- S9: nor is one that is accepted
 pub read-short : (bs : List ℕ) (c : Config) → Bytes bs → readImage bs ≡ accepted c → length bs ≤ 332
 read-short bs c y e = rw (← read-image bs c y e) (image-short c (read-legal bs c y e))
 
@@ -73,7 +75,7 @@ read-short bs c y e = rw (← read-image bs c y e) (image-short c (read-legal bs
 pub read-front : (bs : List ℕ) (n : ℕ) → 335 ≤ n → readImage (take n bs) ≡ readImage bs
 read-front bs n h = image-front n bs h
 
--- a buffer of 332 bytes takes the image of every legal configuration
+-- S9, I12: a buffer of 332 bytes takes the image of every legal configuration
 pub write-fits : (c : Config) (n : ℕ) → legal c ≡ true → 332 ≤ n → answerFor c n ≡ record { refusal = 0; size = length (image c) }
 unfolding answerFor
 write-fits c n e h = rw (e, le-ltb n (length (image c)) (omega (arith, image-short c e)))

@@ -29,7 +29,7 @@ vmOf c k = vmBytes (entryAt c k) (handlerAt c k)
 abbrev pub slotOf : Config → ℕ → List ℕ
 slotOf c k = slotBytes (ownerAt c k) (durationAt c k)
 
--- the image with its records from the front
+-- I5, I6: the image with its records from the front
 pub image-form : (c : Config) → image c ≡ 1 ∷ c .count ∷ c .room ∷ (runs (vmOf c) 0 (c .count) ++ (runs (slotOf c) 0 (c .slots) ++ (4 ∷ [])))
 unfolding image recordsBytes
 image-form c =

@@ -11,6 +11,7 @@ use Rattle.image_reader.specs.Reader.{readEnd, readImage, readSlots, readVms, r
 use Rattle.image_reader.specs.Records.{coreFault, ownerFault, slotFault, vmFault}
 use Rattle.image_writer.specs.Writer.{image, recordsBytes}
 
+-- I8, I9, I13, S9, X1, P6 to P8, and what a missing image prints (N8): it has no bytes, as that of P6
 pub table : map (λ (r : Row). readImage (r .bytes)) rows ≡ map (λ (r : Row). r .answer) rows
 unfolding rows readImage readVms readSlots readEnd refused coreFault vmFault slotFault ownerFault vmsServed hasSlot every some joined
 table = refl

@@ -11,7 +11,7 @@ use Rattle.image_reader.specs.declared.Reading.{Reading}
 use Rattle.image_writer.specs.Writer.{image, unwritten}
 use Rattle.image_writer.specs.declared.Written.{Written}
 
--- an image that is read and written again: its own bytes, or its fault
+-- C6: an image that is read and written again: its own bytes, or its fault
 unfoldable pub copyAnswer : List ℕ → ℕ → Written
 copyAnswer s n =
     pick (eqb (readImage s .fault) 0)
@@ -24,7 +24,7 @@ copyBuffer s b =
     (pick (ltb (length b) (length s)) b (s ++ drop (length s) b))
     b
 
--- a configuration that is written into a buffer of n bytes and read again: itself, or the writer's refusal
+-- C6: a configuration that is written into a buffer of n bytes and read again: itself, or the writer's refusal
 unfoldable pub returned : Config → ℕ → Reading
 returned c n =
     pick (legal c)

@@ -7,7 +7,7 @@ ghost use mathlib.Core.Path.{_≡_};
 ghost use Rattle.image_laws.specs.Trips.{copyAnswer, copyBuffer, returned};
 ghost use Rattle.image_writer.specs.Writer.{bufferAfter};
 
-// Reads an image and writes what was read: the same bytes.
+// Reads an image and writes what was read: the same bytes (C6).
 pub fn rewrite(s: &[u8], b: &mut [u8]) -> Written
     ensures { λ r. ⌜ (r ≡ copyAnswer (now (s .entry)) (length (now (b .entry)))) × (now (b .exit) ≡ copyBuffer (now (s .entry)) (now (b .entry))) ⌝ }
 {
@@ -22,7 +22,7 @@ pub fn rewrite(s: &[u8], b: &mut [u8]) -> Written
     image_writer::write(r.config, b)
 }
 
-// Writes a configuration and reads what was written: the same configuration.
+// Writes a configuration and reads what was written: the same configuration (C6).
 pub fn reread(c: Config, b: &mut [u8]) -> Reading
     ensures { λ r. ⌜ (r ≡ returned c (length (now (b .entry)))) × (now (b .exit) ≡ bufferAfter c (now (b .entry))) ⌝ }
 {

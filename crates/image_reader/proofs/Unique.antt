@@ -6,6 +6,7 @@ use Rattle.image_reader.proofs.read.Reads as read-reads
 use Rattle.image_reader.proofs.reader.refused.Kinds as refused-kinds
 use Rattle.image_reader.proofs.reader.refused.Reads as refused-reads
 
+-- C1, C2
 pub read-one : OneAnswer 1 read-kinds.ps read-kinds.r read-reads.Post
 read-one κs a x y s t p q = p ∙ sym q
 

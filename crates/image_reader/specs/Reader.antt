@@ -10,7 +10,7 @@ use Rattle.config.specs.declared.Config.{Config}
 use Rattle.image_reader.specs.Records.{coreFault, kindIs, slotFault, vmFault}
 use Rattle.image_reader.specs.declared.Reading.{Reading}
 
--- the configuration that a core record begins
+-- I2: the configuration that a core record begins
 abbrev pub begun : ℕ → ℕ → Config
 begun count room = record { count = count; room = room; slots = 0; entries = replicate 8 0; handlers = replicate 8 0; owners = replicate 64 0; durations = replicate 64 0 }
 
@@ -18,33 +18,33 @@ begun count room = record { count = count; room = room; slots = 0; entries = rep
 abbrev pub noConfig : Config
 noConfig = begun 0 0
 
--- refused: the fault with its offset, and no configuration
+-- I7, I10: refused, the fault with its offset and no configuration
 unfoldable pub refused : ℕ → ℕ → Reading
 refused fault at = record { fault = fault; offset = at; config = noConfig }
 
 abbrev pub accepted : Config → Reading
 accepted c = record { fault = 0; offset = 0; config = c }
 
--- goes on where there is no fault
+-- I7: the first fault is the answer; where there is none, it goes on
 abbrev pub onward : ℕ → ℕ → Reading → Reading
 onward fault at next = pick (eqb fault 0) next (refused fault at)
 
--- with VM k
+-- I3: with VM k
 abbrev pub withVm : Config → ℕ → ℕ → ℕ → Config
 withVm c k entry handler = record { count = c .count; room = c .room; slots = c .slots; entries = set (c .entries) k entry; handlers = set (c .handlers) k handler; owners = c .owners; durations = c .durations }
 
--- with one slot more
+-- I4: with one slot more
 abbrev pub withSlot : Config → ℕ → ℕ → Config
 withSlot c owner ticks = record { count = c .count; room = c .room; slots = c .slots + 1; entries = c .entries; handlers = c .handlers; owners = set (c .owners) (c .slots) owner; durations = set (c .durations) (c .slots) ticks }
 
--- the end record at the front of bs
+-- I5, I8: the end record at the front of bs
 unfoldable pub readEnd : List ℕ → ℕ → Config → Reading
 readEnd bs at c =
     pick (vmsServed c)
     (pick (eqb (length bs) 1) (accepted c) (refused 28 (at + 1)))
     (refused 27 at)
 
--- slots and the end record from the front of bs, which stands at offset `at`; c is what was read before, and there is room for so many slots, a refused one with them
+-- I6, I8, I13: slots and the end record from the front of bs, which stands at offset `at`; c is what was read before, and there is room for so many slots, a refused one with them
 unfoldable pub readSlots : ℕ → List ℕ → ℕ → Config → Reading
 readSlots zero bs at c = refused 26 at
 readSlots (suc room) bs at c =
@@ -52,13 +52,13 @@ readSlots (suc room) bs at c =
     (onward (slotFault (c .count) (c .slots) bs) at
     (readSlots room (drop 4 bs) (at + 4) (withSlot c (getD bs 1 0) (half bs 2))))
 
--- the VMs that are still to come, and all that follows
+-- S1, I6, I13: the VMs that are still to come, numbered in their order, and all that follows
 unfoldable pub readVms : ℕ → List ℕ → ℕ → Config → Reading
 readVms zero bs at c = readSlots 65 bs at c
 readVms (suc n) bs at c =
     onward (vmFault bs) at
     (readVms n (drop 9 bs) (at + 9) (withVm c (c .count - suc n) (word bs 1) (word bs 5)))
 
--- the whole image
+-- I6, I7, I14: the whole image, of any number of bytes, from front to back
 unfoldable pub readImage : List ℕ → Reading
 readImage bs = onward (coreFault bs) 0 (readVms (getD bs 1 0) (drop 3 bs) 3 (begun (getD bs 1 0) (getD bs 2 0)))

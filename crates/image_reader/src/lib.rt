@@ -16,7 +16,7 @@ pub struct Reading {
     pub config: Config,
 }
 
-// Reads an image of any length.
+// Reads an image of any length (I1 to I10, I13).
 pub fn read(s: &[u8]) -> Reading
     ensures { λ r. ⌜ r ≡ readImage (now (s .entry)) ⌝ }
 {

@@ -4,6 +4,7 @@ use config::Config;
 ghost use mathlib.Core.Path.{_≡_};
 ghost use Rattle.image_reader.specs.Records.{coreFault, ownerFault, slotFault, vmFault};
 
+// I2, I8, I9.
 pub fn core_fault(s: &[u8]) -> u8
     ensures { λ r. ⌜ r ≡ coreFault (now (s .entry)) ⌝ }
 {
@@ -28,6 +29,7 @@ pub fn core_fault(s: &[u8]) -> u8
     0
 }
 
+// I3, I8, I9.
 pub fn vm_fault(s: &[u8]) -> u8
     ensures { λ r. ⌜ r ≡ vmFault (now (s .entry)) ⌝ }
 {
@@ -43,6 +45,7 @@ pub fn vm_fault(s: &[u8]) -> u8
     0
 }
 
+// I4, I8, I9.
 pub fn slot_fault(count: u8, n: u8, s: &[u8]) -> u8
     ensures { λ r. ⌜ r ≡ slotFault count n (now (s .entry)) ⌝ }
 {

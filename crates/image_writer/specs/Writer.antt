@@ -10,12 +10,15 @@ use Rattle.config.specs.Sizes.{durationAt, entryAt, handlerAt, legal, ownerAt}
 use Rattle.config.specs.declared.Config.{Config}
 use Rattle.image_writer.specs.declared.Written.{Written}
 
+-- I2
 abbrev pub coreBytes : ℕ → ℕ → List ℕ
 coreBytes count room = 1 ∷ count ∷ room ∷ []
 
+-- I3
 abbrev pub vmBytes : ℕ → ℕ → List ℕ
 vmBytes entry handler = 2 ∷ (wordBytes entry ++ wordBytes handler)
 
+-- I4
 abbrev pub slotBytes : ℕ → ℕ → List ℕ
 slotBytes owner ticks = 3 ∷ owner ∷ halfBytes ticks
 
@@ -26,25 +29,25 @@ vmsBytes c = joined (λ k. vmBytes (entryAt c k) (handlerAt c k)) (c .count)
 abbrev pub slotsBytes : Config → List ℕ
 slotsBytes c = joined (λ k. slotBytes (ownerAt c k) (durationAt c k)) (c .slots)
 
--- all records but the last
+-- I6: all records but the last
 unfoldable pub recordsBytes : Config → List ℕ
 recordsBytes c = coreBytes (c .count) (c .room) ++ (vmsBytes c ++ slotsBytes c)
 
--- the whole image
+-- I1, I5, I6: the whole image
 unfoldable pub image : Config → List ℕ
 image c = recordsBytes c ++ (4 ∷ [])
 
 abbrev pub unwritten : ℕ → Written
 unwritten refusal = record { refusal = refusal; size = 0 }
 
--- the writer's answer, for a buffer of n bytes
+-- I11, I12: the writer's answer, for a buffer of n bytes
 unfoldable pub answerFor : Config → ℕ → Written
 answerFor c n =
     pick (legal c)
     (pick (ltb n (length (image c))) (unwritten 30) (record { refusal = 0; size = length (image c) }))
     (unwritten 31)
 
--- what the buffer b then holds
+-- I11, I12: what the buffer b then holds
 unfoldable pub bufferAfter : Config → List ℕ → List ℕ
 bufferAfter c b =
     pick (legal c)

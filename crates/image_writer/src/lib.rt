@@ -16,7 +16,7 @@ pub struct Written {
     pub size: usize,
 }
 
-// Writes the image of a configuration to the front of a buffer, or leaves the buffer as it is.
+// Writes the image of a configuration to the front of a buffer, or leaves the buffer as it is (I11, I12).
 pub fn write(c: Config, b: &mut [u8]) -> Written
     ensures { λ r. ⌜ (r ≡ answerFor c (length (now (b .entry)))) × (now (b .exit) ≡ bufferAfter c (now (b .entry))) ⌝ }
 {

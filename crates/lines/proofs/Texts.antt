@@ -19,6 +19,7 @@ module _ {l m : List ℕ} {i j : ℕ} where
   unfolding choice
   choice-none v after e p = rw (eq-eqb v nobody e) p
 
+  -- N4: a pseudo-interrupt 0 is a number
   pub choice-some : (v after : ℕ) → (v ≡ nobody → ⊥) → Puts (number v after) l i m j → Puts (choice v after) l i m j
   unfolding choice
   choice-some v after e p = rw (ne-eqb v nobody e) p

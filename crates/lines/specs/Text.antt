@@ -10,7 +10,7 @@ use Rattle.change.specs.declared.Answer.{Answer}
 use Rattle.lines.specs.Words.{address, choice, configWord, cutWord, dash, imageWord, number, two}
 use Rattle.text.specs.Digits.{hexByte}
 
--- the address of the VM that runs, or none
+-- N3, N4: the address of the VM that runs, or none
 unfoldable pub whereText : ℕ → ℕ → List ℕ
 whereText running at = pick (eqb running nobody) (dash 32) (address at 32)
 
@@ -21,10 +21,11 @@ runsText running at delivered = choice running 32 ++ (whereText running at ++ ch
 unfoldable pub lineText : ℕ → Answer → List ℕ
 lineText n a = two n (a .refusal) 32 ++ (runsText (a .running) (a .address) (a .delivered) ++ (two (a .notice .kind) (a .result) 32 ++ number (a .removed) 10))
 
--- the first n bytes of an image, two hexadecimal digits each
+-- N10: the first n bytes of an image, two hexadecimal digits each
 unfoldable pub bytesText : List ℕ → ℕ → List ℕ
 bytesText bs n = joined (λ k. hexByte (getD bs k 0)) n
 
+-- N10
 unfoldable pub imageText : List ℕ → List ℕ
 imageText bs = imageWord ++ (bytesText bs (length bs) ++ (10 ∷ []))
 

@@ -6,20 +6,23 @@ use Rattle.basis.specs.Choice.{pick}
 use Rattle.basis.specs.Nobody.{nobody}
 use Rattle.text.specs.Digits.{decimal, hex8}
 
--- `config `, `long` and a line's end, `cut `, `image `
+-- N5: `config `
 abbrev pub configWord : List ℕ
 configWord = 99 ∷ 111 ∷ 110 ∷ 102 ∷ 105 ∷ 103 ∷ 32 ∷ []
 
+-- N6: `long` and a line's end
 abbrev pub longLine : List ℕ
 longLine = 108 ∷ 111 ∷ 110 ∷ 103 ∷ 10 ∷ []
 
+-- N7: `cut `
 abbrev pub cutWord : List ℕ
 cutWord = 99 ∷ 117 ∷ 116 ∷ 32 ∷ []
 
+-- N10: `image `
 abbrev pub imageWord : List ℕ
 imageWord = 105 ∷ 109 ∷ 97 ∷ 103 ∷ 101 ∷ 32 ∷ []
 
--- `notice `, `core `, `queue`, `vm `
+-- N9: `notice `, `core `, `queue`, `vm `
 abbrev pub noticeWord : List ℕ
 noticeWord = 110 ∷ 111 ∷ 116 ∷ 105 ∷ 99 ∷ 101 ∷ 32 ∷ []
 
@@ -32,11 +35,11 @@ queueWord = 113 ∷ 117 ∷ 101 ∷ 117 ∷ 101 ∷ []
 abbrev pub vmWord : List ℕ
 vmWord = 118 ∷ 109 ∷ 32 ∷ []
 
--- a dot and a line's end
+-- N10: a dot and a line's end
 abbrev pub dotLine : List ℕ
 dotLine = 46 ∷ 10 ∷ []
 
--- a number in decimal, or an address as eight hexadecimal digits, and the byte behind it: 32 is a space, 10 a line's end
+-- N3, N12: a number in decimal, or an address as eight hexadecimal digits, and the byte behind it: 32 is a space, 10 a line's end
 abbrev pub number : ℕ → ℕ → List ℕ
 number n after = decimal n ++ (after ∷ [])
 
@@ -50,6 +53,6 @@ two m n after = number m 32 ++ number n after
 abbrev pub dash : ℕ → List ℕ
 dash after = 45 ∷ after ∷ []
 
--- a VM or a pseudo-interrupt, or none
+-- N4, A3: a VM or a pseudo-interrupt, 0 among them, or none
 unfoldable pub choice : ℕ → ℕ → List ℕ
 choice v after = pick (eqb v nobody) (dash after) (number v after)

@@ -5,6 +5,7 @@ ghost use lib.ListN.{length};
 ghost use Rattle.lines.specs.Text.{bytesText, imageText};
 ghost use Rattle.text.specs.Puts.{Puts};
 
+// N10.
 pub fn put_image(b: &mut [u8], bytes: &[u8]) -> usize
     requires { ⌜ (length (now bytes) ≤ 332) × (2048 ≤ length (now b)) ⌝ }
     ensures { λ r. ⌜ Puts (imageText (now (bytes .entry))) (now (b .entry)) 0 (now (b .exit)) r × (r ≤ 2048) ⌝ }

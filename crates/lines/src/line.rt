@@ -8,7 +8,7 @@ ghost use Rattle.lines.specs.Words.{address, choice, two};
 ghost use Rattle.text.specs.Pairs.{pairs};
 ghost use Rattle.text.specs.Puts.{Puts};
 
-// A VM or a pseudo-interrupt, or `-` for none, and the byte behind it.
+// A VM or a pseudo-interrupt, or `-` for none (N4), and the byte behind it.
 pub fn put_choice(b: &mut [u8], at: usize, v: u8, after: u8) -> usize
     requires { ⌜ at + 11 ≤ length (now b) ⌝ }
     ensures { λ r. ⌜ Puts (choice v after) (now (b .entry)) at (now (b .exit)) r × (r ≤ at + 11) ⌝ }
@@ -64,6 +64,7 @@ pub fn put_two_by(b: &mut [u8], at: usize, m: u32, n: u32, after: u8, t: &[u8; 7
     text::put_number_by(b, second, n, after, t)
 }
 
+// N3, N4, N12.
 pub fn put_line(b: &mut [u8], at: usize, n: u32, a: Answer, t: &[u8; 712]) -> usize
     requires { ⌜ (now t ≡ pairs) × (at + 86 ≤ length (now b)) ⌝ }
     ensures { λ r. ⌜ Puts (lineText n a) (now (b .entry)) at (now (b .exit)) r × (r ≤ at + 86) ⌝ }
@@ -76,6 +77,7 @@ pub fn put_line(b: &mut [u8], at: usize, n: u32, a: Answer, t: &[u8; 712]) -> us
     text::put_number(b, a3, a.removed as u32, 10)
 }
 
+// N5.
 pub fn put_refused(b: &mut [u8], at: usize, fault: u8, offset: u32) -> usize
     requires { ⌜ at + 29 ≤ length (now b) ⌝ }
     ensures { λ r. ⌜ Puts (refusedText fault offset) (now (b .entry)) at (now (b .exit)) r × (r ≤ at + 29) ⌝ }
@@ -84,6 +86,7 @@ pub fn put_refused(b: &mut [u8], at: usize, fault: u8, offset: u32) -> usize
     put_two(b, word, fault as u32, offset, 10)
 }
 
+// N7.
 pub fn put_cut(b: &mut [u8], at: usize, n: u32) -> usize
     requires { ⌜ at + 15 ≤ length (now b) ⌝ }
     ensures { λ r. ⌜ Puts (cutText n) (now (b .entry)) at (now (b .exit)) r × (r ≤ at + 15) ⌝ }

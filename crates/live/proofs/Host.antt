@@ -41,7 +41,7 @@ for-unsound c Unknown h = rw h
 pub host-sound : (c : Core) (e : Input) → sound c ≡ true → stepBy c e ≡ innerBy c e
 host-sound c e h = for-sound c _ h
 
--- any other state stays, and is answered with 1
+-- R1 to R3: any other state stays, and is answered with 1
 pub host-unsound : (c : Core) (e : Input) → sound c ≡ false → (c ≡ stepBy c e .core) × (quietly 1 nobody 0 ≡ stepBy c e .answer)
 unfolding refused
 host-unsound c e h = let w = sym (for-unsound c _ h) in (ap (λ (s : Stepped). s .core) w, ap (λ (s : Stepped). s .answer) w)

@@ -34,10 +34,12 @@ module _ {M : Type 1} (𝓤 : URA M) (H : Heap 𝓤) (A : Atoms 𝓤) (mem : Mem
       → ent 𝓤 (sep 𝓤 (happen.clauses 𝓤 H A mem run κs a .ensures tt x s) (happen.clauses 𝓤 H A mem run κs a .ensures tt y t)) (fact 𝓤 ((x ≡ y) × (now (s .0) ≡ now (t .0))))
   happen-one κs a x y s t = of-both (λ p q. (p .1 ∙ sym (q .1), p .0 ∙ sym (q .0)))
 
+  -- C1, C2
   pub core-live-one : (κs : Lfts 1) (a : Args live.signature κs) (x y : Res live.signature κs) (s t : AtExit live.ended κs)
       → ent 𝓤 (sep 𝓤 (live.clauses 𝓤 H A mem run κs a .ensures tt x s) (live.clauses 𝓤 H A mem run κs a .ensures tt y t)) (fact 𝓤 ((x ≡ y) × (now (s .0) ≡ now (t .0))))
   core-live-one κs a x y s t = of-both (λ p q. (p .1 ∙ sym (q .1), p .0 ∙ sym (q .0)))
 
+  -- C1, C2
   pub core-inner-one : (κs : Lfts 1) (a : Args inner.signature κs) (x y : Res inner.signature κs) (s t : AtExit inner.ended κs)
       → ent 𝓤 (sep 𝓤 (inner.clauses 𝓤 H A mem run κs a .ensures tt x s) (inner.clauses 𝓤 H A mem run κs a .ensures tt y t)) (fact 𝓤 ((x ≡ y) × (now (s .0) ≡ now (t .0))))
   core-inner-one κs a x y s t = of-both (λ p q. (p .1 ∙ sym (q .1), p .0 ∙ sym (q .0)))

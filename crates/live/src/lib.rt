@@ -29,7 +29,7 @@ pub struct Begun {
     pub core: Core,
 }
 
-// The live layer: any event on a core that is lent.
+// The live layer (T9, K6): any event on a core that is lent.
 pub fn happen(c: &mut Core, e: Event) -> Answer
     ensures { λ r. ⌜ (now (c .exit) ≡ stepOf (now (c .entry)) e .core) × (r ≡ stepOf (now (c .entry)) e .answer) ⌝ }
 {
@@ -38,7 +38,7 @@ pub fn happen(c: &mut Core, e: Event) -> Answer
     after.answer
 }
 
-// The fresh core of an image of any length.
+// The fresh core of an image of any length (I7 to I10, T6, T7).
 #[no_mangle]
 pub extern "C" fn core_fresh(s: &[u8]) -> Begun
     ensures { λ r. ⌜ r ≡ begunFrom (now (s .entry)) ⌝ }
@@ -53,7 +53,7 @@ pub extern "C" fn core_fresh(s: &[u8]) -> Begun
     }
 }
 
-// An event by value: the state after it, with the answer.
+// An event by value: the state after it, with the answer (T8).
 #[no_mangle]
 pub extern "C" fn core_step(c: Core, e: Input) -> Stepped
     ensures { λ r. ⌜ r ≡ stepBy c e ⌝ }
@@ -66,7 +66,7 @@ pub extern "C" fn core_step(c: Core, e: Input) -> Stepped
     }
 }
 
-// The live layer for a host: an event on the core that it lends. One that is not sound is refused with 1.
+// The live layer for a host (T9): an event on the core that it lends. One that is not sound is refused with 1 (R1).
 #[no_mangle]
 pub extern "C" fn core_live(c: &mut Core, e: Input) -> Answer
     ensures { λ r. ⌜ (now (c .exit) ≡ stepBy (now (c .entry)) e .core) × (r ≡ stepBy (now (c .entry)) e .answer) ⌝ }
@@ -77,7 +77,7 @@ pub extern "C" fn core_live(c: &mut Core, e: Input) -> Answer
     barred()
 }
 
-// The same for a host that knows its core to be sound, since only these functions wrote it: nothing is tested.
+// The same (T9) for a host that knows its core to be sound, since only these functions wrote it: nothing is tested.
 #[no_mangle]
 pub extern "C" fn core_inner(c: &mut Core, e: Input) -> Answer
     ensures { λ r. ⌜ (now (c .exit) ≡ innerBy (now (c .entry)) e .core) × (r ≡ innerBy (now (c .entry)) e .answer) ⌝ }

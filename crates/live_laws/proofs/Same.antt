@@ -37,7 +37,7 @@ unfolding calls
 calls-good [] c h = h
 calls-good ((inner, e) ∷ es) c h = calls-good es (pick inner (innerBy c e) (stepBy c e) .core) (call-good c inner e h)
 
--- the core that `core_fresh` gives with fault 0, after any calls of these functions
+-- T9: the core that `core_fresh` gives with fault 0, after any calls of these functions
 pub inner-is-live : (bs : List ℕ) → Bytes bs → begunFrom bs .fault ≡ 0 → (es : List (Bool × Input)) (e : Input) → innerBy (calls (begunFrom bs .core) es) e ≡ stepBy (calls (begunFrom bs .core) es) e
 inner-is-live bs h f es e =
     let g = given bs h f in

@@ -18,7 +18,7 @@ use Rattle.queue.specs.declared.Queue.{Queue}
 abbrev pub placeFrom : Event → ℕ → ℕ
 placeFrom e running = pick (ofMaster e) (subject e) (pick (ofRunning e) running nobody)
 
--- what becomes of the VM at `place`, of who runs and of the queue; a Tick's place is the VM that it runs, its queue what the tick left of it
+-- what becomes of the VM at `place`, of who runs and of the queue; a Tick's place is the VM that it runs, its queue what the tick left of it. But for a Tick and some Calls nothing is delivered (D13), so by a Write nothing (D22)
 unfoldable pub changeFrom : Event → ℕ → Vm → ℕ → Queue → Bool → ℕ → ℕ → ℕ → Change
 changeFrom Start place vm running queue noRoom left entry handler = renewedFrom running queue place vm nobody
 changeFrom (Tick at) place vm running queue noRoom left entry handler = tickingFrom queue place vm left handler

@@ -9,15 +9,15 @@ use Rattle.event.specs.Kinds.{byteOf, isExtra, isFault, isStart, isWrite, ofMas
 use Rattle.event.specs.declared.Event.{Event}
 use Rattle.guest.specs.Write.{isField}
 
--- a Write to no field
+-- R1, row 8: a Write to no field
 abbrev pub strayWrite : Event → Bool
 strayWrite e = both (isWrite e) (not (isField (byteOf e)))
 
--- a Fault whose code is not 3, 4 or 5
+-- R1, row 9: a Fault whose code is not 3, 4 or 5
 abbrev pub strayFault : Event → Bool
 strayFault e = both (isFault e) (not (within 3 5 (byteOf e)))
 
--- from top to bottom; 0 where none applies. `ready` is of the VM that the master names
+-- R1, from top to bottom; 0 where none applies. `ready` is of the VM that the master names. A queue without room is always full (R4); Restart has rows 2 and 3 alone, Tick row 2 (R5)
 abbrev pub rowFrom : Event → ℕ → ℕ → ℕ → Bool → ℕ → ℕ → ℕ
 rowFrom e started count running ready room queued =
     pick (both (isStart e) (eqb started 1)) 7

@@ -10,7 +10,7 @@ ghost use mathlib.Core.Path.{_≡_};
 ghost use Rattle.logic.specs.Changing.{changeFrom, placeFrom};
 ghost use Rattle.logic.specs.Rows.{rowFrom};
 
-// The VM that an event is about: the one that the master names, or the one that runs; NOBODY for Start and Tick.
+// The VM that an event is about (E11): the one that the master names, or the one that runs; NOBODY for Start and Tick.
 pub fn place_of(e: Event, running: u8) -> u8
     ensures { λ r. ⌜ r ≡ placeFrom e running ⌝ }
 {
@@ -53,7 +53,7 @@ pub fn row_of(
 }
 
 // What an event that is not refused makes of the VM at its place. A Tick's place is the VM that it runs, and its queue what the
-// tick left of it.
+// tick left of it. But for a Tick and some Calls nothing is delivered (D13), so by a Write nothing (D22).
 pub fn change_of(
     e: Event,
     place: u8,

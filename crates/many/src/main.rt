@@ -1,6 +1,7 @@
 // Runs the cases that come on standard input. A case is the image's length and the log's length, two bytes each with the
 // low byte first; the image; the log. What is printed for it: what statelog prints, the line `image` where the image was
 // accepted, and a dot. Input that ends within a case is told by the line `torn`.
+// Rules that its run in the gate tries: N5, N7, N10, N11, and C7, since what it has to print was written by the twin.
 ghost use Prim.Native.Nat.{_*_, _+_, _<_};
 ghost use mathlib.Core.Path.{_≡_};
 
@@ -17,7 +18,7 @@ fn main() {
     }
 }
 
-// One case; false where there is none, or nothing more can be done.
+// One case (N10); false where there is none, or nothing more can be done (N11, N12).
 fn one(image: &mut [u8], log: &mut [u8], out: &mut [u8]) -> bool {
     let mut head: [u8; 4] = [0; 4];
     let got = io::read_full(0, &mut head);
@@ -50,6 +51,7 @@ fn length_of(low: u8, high: u8) -> usize
     low as usize + (high as usize) * 256
 }
 
+// N11.
 fn torn() -> bool {
     io::write_all(1, b"torn\n");
     false

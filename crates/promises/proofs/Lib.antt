@@ -1,11 +1,5 @@
-pub mod Refusing
-pub mod Accounts
-pub mod Slices
-pub mod Waits
-pub mod Starting
-pub mod Removal
-pub mod Ticks
-pub mod Clocks
-pub mod Delivery
-pub mod Answers
-pub mod Ours
+pub mod Due
+pub mod Fields
+pub mod Follows
+pub mod Meets
+pub mod Only

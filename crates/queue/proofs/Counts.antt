@@ -25,6 +25,7 @@ entries-rest v (x ∷ q) h = go (eqb x v)
     go true = omega arith
     go false = omega arith
 
+-- D20
 pub entries-add : (v w : ℕ) (q : List ℕ) → entriesOf v (q ++ (w ∷ [])) ≡ entriesOf v q + pick (eqb w v) 1 0
 unfolding entriesOf
 entries-add v w [] = go (eqb w v)
@@ -39,7 +40,7 @@ entries-add v w (x ∷ q) = go (eqb x v) (entries-add v w q)
     go true h = omega arith
     go false h = h
 
--- where the entries of w leave, v has none left if it is w, and else keeps all
+-- D14, D18, A8: where the entries of w leave, v has none left if it is w, and else keeps all
 pub entries-gone : (v : ℕ) (q : List ℕ) → entriesOf v (others v q) ≡ 0
 unfolding entriesOf others
 entries-gone v [] = refl

@@ -57,7 +57,7 @@ rest-at [] k = refl
 rest-at (x ∷ l) k = rw add-one
 
 -- others
--- the entries are those that stay and those of v
+-- A8: the entries are those that stay and those of v
 pub others-count : (v : ℕ) (l : List ℕ) → length l ≡ length (others v l) + entriesOf v l
 unfolding others entriesOf
 others-count v [] = refl
@@ -101,6 +101,7 @@ entries-length q s h = length-take-le (q .len) (q .items) (omega arith)
 pub entries-most : (q : Queue) → length (q .items) ≡ 16 → length (entries q) ≤ 16
 entries-most q s = simp length-take (omega arith)
 
+-- W5
 pub padded-of : (l : List ℕ) → length l ≤ 16 → paddedOf (ofList l) ≡ true
 unfolding paddedOf
 padded-of l h =
@@ -114,7 +115,7 @@ padded-of l h =
 pub queue-is : (l items : List ℕ) (len : ℕ) → items ≡ pad l → len ≡ length l → _≡_ {A = Queue} (record { items = items; len = len }) (ofList l)
 queue-is l items len e f = rw (e, f)
 
--- a padded queue is the queue of its entries
+-- T5, W5: a padded queue is the queue of its entries
 pub of-entries : (q : Queue) → length (q .items) ≡ 16 → q .len ≤ 16 → paddedOf q ≡ true → q ≡ ofList (entries q)
 unfolding paddedOf
 of-entries q s h e =
@@ -137,11 +138,12 @@ of-entries q s h e =
               zero-past k (omega arith) j ∙ sym (pad-at (entries q) (16 - length (entries q)) k ∙ take-at-past (q .len) (q .items) k j))
         ]
 
--- the entries of each result
+-- D20: the entries of each result
 pub entries-pushed : (v : ℕ) (q : Queue) → q .len < 16 → entries (pushed v q) ≡ entries q ++ (v ∷ [])
 unfolding pushed
 entries-pushed v q h = rw (lt-ltb (q .len) 16 h) (entries-of (entries q ++ (v ∷ [])))
 
+-- D7
 pub entries-popped : (q : Queue) → entries (ofList (rest (entries q))) ≡ rest (entries q)
 entries-popped q = entries-of (rest (entries q))
 
@@ -218,6 +220,7 @@ module _ (p : ℕ → Type 0) where
   all-map r f [] a = tt
   all-map r f (x ∷ l) a = (f x (a .0), all-map r f l (a .1))
 
+-- D14, D18: none of v is left
 pub all-others-not : (v : ℕ) (l : List ℕ) → All (λ x. eqb x v ≡ false) (others v l)
 unfolding others
 all-others-not v [] = tt

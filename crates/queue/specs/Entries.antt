@@ -11,7 +11,7 @@ use Rattle.queue.specs.declared.Queue.{Queue}
 use Rattle.queue.specs.declared.Removal.{Removal}
 use Rattle.queue.specs.declared.Served.{Served}
 
--- the entries, the oldest first
+-- T5: the entries, the oldest first
 abbrev pub entries : Queue → List ℕ
 entries q = take (q .len) (q .items)
 
@@ -47,7 +47,7 @@ entriesOf v (x ∷ l) = pick (eqb x v) (suc (entriesOf v l)) (entriesOf v l)
 abbrev pub removal : ℕ → Queue → Removal
 removal v q = record { queue = ofList (others v (entries q)); count = entriesOf v (entries q) }
 
--- v joins the end; a queue with all places taken stays as it is (D20, D29)
+-- v joins the end, whether it has an entry or not (T5); a queue with all places taken stays as it is (D20, D29)
 unfoldable pub pushed : ℕ → Queue → Queue
 pushed v q = pick (ltb (q .len) 16) (ofList (entries q ++ (v ∷ []))) q
 

@@ -7,7 +7,7 @@ ghost use mathlib.Core.Path.{_≡_};
 ghost use Rattle.basis.specs.Choice.{pick};
 ghost use Rattle.queue.specs.Entries.{entries, frontOf, ofList, others, paddedOf, pushed, removal, rest, served};
 
-// A queue: its first `len` places are its entries.
+// A queue of sixteen places: its first `len` are its entries (T5).
 #[repr(C)]
 pub struct Queue {
     pub items: [u8; 16], // VM numbers
@@ -29,6 +29,7 @@ pub struct Served {
 impl Queue {
     pub const PLACES: u8 = 16;
 
+    // T6.
     pub fn empty() -> Queue
         ensures { λ r. ⌜ r ≡ ofList [] ⌝ }
     {
@@ -104,7 +105,7 @@ impl Queue {
         self
     }
 
-    // Without the entries for v, and how many those were (D14, D18): as many as it is shorter.
+    // Without the entries for v, and how many those were (D14, D18, A8): as many as it is shorter.
     pub fn without(self, v: u8) -> Removal
         ensures { λ r. ⌜ r ≡ removal v self ⌝ }
     {

@@ -45,10 +45,12 @@ module _ (f : Stepping) (states : Bool) (s : List ℕ) where
       let i = take-inside s at e to q in
       rw (h, q) (ap (λ (t : List ℕ). eventText states n (f c e) ++ t) (lines-enough (length s) (suc (length s)) (f c e .core) to (n + 1) (omega (arith, i .0)) (omega (arith, i .0))))
 
+  -- at its end nothing more is printed, so nothing of a log without bytes, as a file that does not open has (N8)
   pub log-end : (c : Core) (at n : ℕ) → readAt s at ≡ End → logText f states s c at n ≡ []
   unfolding linesBy onward
   log-end c at n q = rw q
 
+  -- N7
   pub log-cut : (c : Core) (at n r o : ℕ) → readAt s at ≡ Refuse r o → logText f states s c at n ≡ cutText n
   unfolding linesBy onward
   log-cut c at n r o q = rw q

@@ -61,5 +61,6 @@ turns-enough states image log size k b r h = all-by states image log size k b (o
 pub runlog-printed : (image log : List ℕ) (size k : ℕ) → Bytes image → 2048 ≤ size → length log < k → printed false image log size k .text ≡ runText image log
 runlog-printed image log size k b r h = all-printed false image log size k b r h .0
 
+-- N9
 pub statelog-printed : (image log : List ℕ) (size k : ℕ) → Bytes image → 2048 ≤ size → length log < k → printed true image log size k .text ≡ stateRunText image log
 statelog-printed image log size k b r h = all-printed true image log size k b r h .0

@@ -23,5 +23,6 @@ runs-alike states bs log h = run-same innerOf stepOf Good inner-good good-step s
 pub runlog-prints : (bs log : List ℕ) → Bytes bs → runBy innerOf false bs log ≡ runText bs log
 runlog-prints bs log h = runs-alike false bs log h
 
+-- N9
 pub statelog-prints : (bs log : List ℕ) → Bytes bs → runBy innerOf true bs log ≡ stateRunText bs log
 statelog-prints bs log h = runs-alike true bs log h

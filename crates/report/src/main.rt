@@ -1,4 +1,5 @@
 // Prints the tick report of config.bin and of log00.bin to log15.bin: the figures of each VM, summed over the logs (N13 to N21).
+// Rules that its run in the gate tries: X3, N18.
 use tally::Tally;
 ghost use Rattle.tally.specs.Counting.{OfLogs};
 
@@ -11,7 +12,7 @@ fn main() {
     io::write_all(1, &log[..n]);
 }
 
-// The figures of the logs in the current folder, up to the first that does not open. No more of a log is read than decides.
+// The figures of the logs in the current folder, up to the first that does not open (N13). No more of a log is read than decides (N20).
 fn counted(image: &[u8], log: &mut [u8]) -> Tally
     ensures { λ r. ⌜ OfLogs (now (image .entry)) 16 r ⌝ }
 {

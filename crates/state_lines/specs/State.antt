@@ -17,15 +17,15 @@ use Rattle.queue.specs.declared.Queue.{Queue}
 use Rattle.table.specs.declared.Clock.{Clock}
 use Rattle.text.specs.Digits.{decimal}
 
--- `notice VM CODE DATA`
+-- N9: `notice VM CODE DATA`
 unfoldable pub noticeText : Notice → List ℕ
 noticeText t = noticeWord ++ (two (t .vm) (t .code) 32 ++ number (t .detail) 10)
 
--- `core STARTED TICKED SLOT LEFT RUNNING`
+-- N9: `core STARTED TICKED SLOT LEFT RUNNING`
 unfoldable pub clockText : Clock → ℕ → List ℕ
 clockText k running = coreWord ++ (two (k .started) (k .ticked) 32 ++ (two (k .slot) (k .left) 32 ++ choice running 10))
 
--- `queue` and its entries, a space before each
+-- N9: `queue` and its entries, a space before each
 abbrev pub entryText : ℕ → List ℕ
 entryText v = (32 ∷ []) ++ decimal v
 
@@ -43,14 +43,14 @@ fiveText v w x y z = address v 32 ++ (address w 32 ++ (address x 32 ++ (address 
 unfoldable pub fieldsText : Status → List ℕ
 fieldsText f = fiveText (f .since) (f .left) (f .enabled) (f .pending) (f .resume) ++ fiveText (f .reason) (f .previous) (f .restore) (f .ontick) (f .running)
 
--- `vm N STANDING ADDRESS F1 .. F10 AGE TICKSRUN`
+-- N9: `vm N STANDING ADDRESS F1 .. F10 AGE TICKSRUN`
 unfoldable pub vmText : ℕ → Vm → List ℕ
 vmText k v = vmWord ++ (two k (v .standing) 32 ++ (address (v .address) 32 ++ (fieldsText (v .status) ++ two (v .age) (v .ran) 10)))
 
 unfoldable pub vmsText : List Vm → List ℕ
 vmsText vs = joined (λ k. vmText k (getD vs k fresh)) 8
 
--- the four lines' worth of a state, by its parts
+-- N9: the four lines' worth of a state, by its parts
 abbrev pub partsText : Notice → Clock → ℕ → Queue → List Vm → List ℕ
 partsText t clock running queue vms = noticeText t ++ (clockText clock running ++ (queueText queue ++ vmsText vms))
 
@@ -60,6 +60,6 @@ stateText t c = partsText t (c .clock) (c .running) (c .queue) (c .vms)
 unfoldable pub statesText : Bool → Notice → Core → List ℕ
 statesText states t c = pick states (stateText t c) []
 
--- the event with number n: its line, and the state if states are printed
+-- N2, N9: the event with number n: its line, and the state if states are printed
 unfoldable pub eventText : Bool → ℕ → Stepped → List ℕ
 eventText states n d = lineText n (d .answer) ++ statesText states (d .answer .notice) (d .core)

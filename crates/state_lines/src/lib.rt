@@ -15,7 +15,7 @@ ghost use Rattle.state_lines.specs.State.{clockText, entriesText, entryT
 ghost use Rattle.text.specs.Pairs.{pairs};
 ghost use Rattle.text.specs.Puts.{Puts};
 
-// The state if `states`, else nothing; the VM records are those of a bank.
+// The state if `states`, else nothing (N9); the VM records are those of a bank.
 pub fn put_states(
     b: &mut [u8],
     at: usize,

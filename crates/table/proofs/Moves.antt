@@ -48,6 +48,7 @@ enter-on-table g l k i h = record { slot = h; some = duration-some g l i h; most
 after-slot : (n i : ℕ) → 1 ≤ n → slotAfter n i < n
 after-slot n i h = pick-case (λ (x : ℕ). x < n) (ltb (i + 1) n) _ _ (λ e. ltb-true (i + 1) n e) (λ e. omega arith)
 
+-- D5, W8, W9: a tick leaves the table at one of its ticks
 pub next-on-table : (g : Config) → Legal g → (k : Clock) → (hasTicked k ≡ true → OnTable g k) → OnTable g (nextClock (g .slots) (g .durations) k)
 unfolding nextClock
 next-on-table g l k p =

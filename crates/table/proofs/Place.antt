@@ -78,12 +78,12 @@ module _ (g : Config) (l : Legal g) where
   entered k i h s e =
       placed-at k (enterSlot (g .durations) h i) refl s (duration-some g l i s) (omega arith) (omega (arith, e))
 
-  -- the first tick enters the table
+  -- D5, D10: the first tick enters the table, at its tick 0
   pub placed-first : (h : Clock) → hasTicked h ≡ false → Placed g 0 (nextClock (g .slots) (g .durations) h)
   unfolding nextClock
   placed-first h t = rw t (entered 0 0 h (omega (arith, l .table .0)) (to-none ∙ sym (mod-eq-of-lt sum-some)))
 
-  -- each later tick goes on by one
+  -- D5, D10: each later tick goes on by one
   pub placed-next : (k : ℕ) (h : Clock) → Placed g k h → Placed g (suc k) (nextClock (g .slots) (g .durations) h)
   unfolding nextClock
   placed-next k h p = rw (p .ticked) (pick-case (Placed g (suc k)) (ltb 1 (h .left)) _ _ less (λ t. over t (ltb (h .slot + 1) (g .slots)) refl))

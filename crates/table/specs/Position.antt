@@ -7,6 +7,7 @@ use mathlib.Core.List.{List}
 use Rattle.basis.specs.Choice.{pick, unless}
 use Rattle.table.specs.declared.Clock.{Clock}
 
+-- T6
 abbrev pub freshClock : Clock
 freshClock = record { started = 0; ticked = 0; slot = 0; left = 0 }
 
@@ -20,15 +21,15 @@ isStarted k = eqb (k .started) 1
 abbrev pub hasTicked : Clock → Bool
 hasTicked k = eqb (k .ticked) 1
 
--- a slot is entered, with its duration as ticks left
+-- D5: a slot is entered, with its duration as ticks left
 abbrev pub enterSlot : List ℕ → Clock → ℕ → Clock
 enterSlot durations k slot = record { started = k .started; ticked = 1; slot = slot; left = getD durations slot 0 }
 
--- one of the slot's ticks is over
+-- D5: one of the slot's ticks is over
 abbrev pub oneLess : Clock → Clock
 oneLess k = record { started = k .started; ticked = 1; slot = k .slot; left = k .left - 1 }
 
--- the slot after this one; after the last, the first
+-- D5: the slot after this one; after the last, the first
 abbrev pub slotAfter : ℕ → ℕ → ℕ
 slotAfter slots i = pick (ltb (i + 1) slots) (i + 1) 0
 

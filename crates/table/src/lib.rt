@@ -20,7 +20,7 @@ impl Clock {
 
     pub const NO: u8 = 0;
 
-    // The clock of a fresh core.
+    // The clock of a fresh core (T6).
     pub fn fresh() -> Clock
         ensures { λ r. ⌜ r ≡ freshClock ⌝ }
     {
@@ -44,7 +44,7 @@ impl Clock {
         }
     }
 
-    // One tick on, in a table of `slots` slots.
+    // One tick on, in a table of `slots` slots (D5).
     pub fn next(self, slots: u8, durations: &[u16]) -> Clock
         ensures { λ r. ⌜ r ≡ nextClock slots (now (durations .entry)) self ⌝ }
     {

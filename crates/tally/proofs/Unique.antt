@@ -9,5 +9,6 @@ use Rattle.tally.proofs.Tally.with_log.Reads as counting
 pub none-one : OneAnswer 0 nones.ps nones.r beginning.Post
 none-one κs a x y s t p q = p ∙ sym q
 
+-- C1, C2
 pub with-log-one : OneAnswer 2 with-logs.ps with-logs.r counting.Post
 with-log-one κs a x y s t p q = p ∙ sym q

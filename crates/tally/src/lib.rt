@@ -4,7 +4,7 @@ mod count;
 ghost use mathlib.Core.Path.{_≡_};
 ghost use Rattle.tally.specs.Counting.{noTally, withLog};
 
-// The figures of some logs: table ticks, spare ticks and missed ticks of each VM; idle ticks; all accepted ticks.
+// The figures of some logs (N16, N17): table ticks, spare ticks and missed ticks of each VM; idle ticks; all accepted ticks.
 pub struct Tally {
     pub table: [u32; 8],
     pub spare: [u32; 8],
@@ -17,7 +17,7 @@ impl Tally {
     // The most logs that a report has (N13).
     pub const LOGS: u8 = 16;
 
-    // The figures of no log at all.
+    // The figures of no log at all (N21).
     pub fn none() -> Tally
         ensures { λ r. ⌜ r ≡ noTally ⌝ }
     {
@@ -30,7 +30,7 @@ impl Tally {
         }
     }
 
-    // The figures with those of one more log.
+    // The figures with those of one more log (N14 to N17, N19, N20).
     pub fn with_log(self, image: &[u8], log: &[u8]) -> Tally
         ensures { λ r. ⌜ r ≡ withLog (now (image .entry)) (now (log .entry)) self ⌝ }
     {

@@ -167,6 +167,6 @@ report-prints image y logs h = go (eqb (readImage image .fault) 0) refl
         (λ p. omega (arith, never-wraps stepOf (readImage image .config) p logs h)))
     go false q = refl
 
--- whatever the logs were, what is then shown is their report
+-- N13, N18, N21: whatever the logs were, what is then shown is their report
 pub shows-report : (image : List ℕ) → Bytes image → (t : Tally) (o : OfLogs image 16 t) → shownText image t ≡ reportText image (o .logs)
 shows-report image y t o = ap (shownText image) (o .are) ∙ report-prints image y (o .logs) (o .few)

@@ -227,7 +227,7 @@ module _ (g : Config) (d : Given g) where
   run-one : (es : List Event) → Each (AddsOne g) (history stepOf g es)
   run-one es = each-of stepOf Stays stays-step (AddsOne g) (λ k c s e. adds-one g few (moment stepOf k c e) (fits k c s e)) es 0 (freshCore g) stays-fresh
 
-  -- over every run of events
+  -- N16, N17: over every run of events
   pub run-adds : (es : List Event) → Adds g (history stepOf g es)
   run-adds es = adds-all g (history stepOf g es) (run-one es)
 
@@ -240,7 +240,7 @@ module _ (g : Config) (d : Given g) where
       here true = tt
       here false = run-one (eventsFrom s 0)
 
-  -- and over all logs of a report
+  -- N14, N16, N17: and over all logs of a report
   pub report-adds : (logs : List (List ℕ)) → Adds g (happensIn stepOf g logs)
   report-adds logs = adds-all g (happensIn stepOf g logs) (logs-one logs)
 

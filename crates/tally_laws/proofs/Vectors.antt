@@ -69,10 +69,12 @@ happened : happensIn stepOf (example 1) (exampleLog ∷ []) ≡ run
 unfolding happensIn happens run
 happened = rw log-read (append-nil (history stepOf (example 1) exampleEvents))
 
+-- X3
 pub example-report : reportText exampleImage (exampleLog ∷ []) ≡ exampleReport
 unfolding reportText rowText lastText decimal digits width glyph
 example-report = rw (image-read .0, image-read .1, happened, text-of (example 1) run 2 1 1 1 0 0 1 5 refl (ap (λ (l : List (List ℕ)). getD l 0 []) figures) (ap (λ (l : List (List ℕ)). getD l 1 []) figures) (ap (λ (l : List (List ℕ)). getD l 2 []) figures))
 
+-- N21: with no log at all
 pub empty-report : reportText exampleImage [] ≡ emptyReport
 unfolding reportText happensIn rowText lastText decimal digits width glyph times
 empty-report = rw (image-read .0, image-read .1, text-of (example 1) [] 0 0 0 0 0 0 0 0 refl refl refl refl)

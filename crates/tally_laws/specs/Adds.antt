@@ -14,12 +14,13 @@ unfoldable pub total : (ℕ → ℕ) → ℕ → ℕ
 total f zero = 0
 total f (suc n) = total f n + f n
 
+-- N16, N17
 pub record Adds (g : Config) (ms : List Moment) : Type 0 where
   -- table and spare ticks of all VMs, and the idle ticks, are the accepted ticks
   pub all : total (λ v. times (tableTick g v) ms + times (spareTick g v) ms) (g .count) + times idleTick ms ≡ times ticking ms
   -- a VM's table ticks and missed ticks are the accepted ticks that the table names for it
   pub named : (v : ℕ) → v < g .count → times (tableTick g v) ms + times (missedTick g v) ms ≡ times (naming g v) ms
 
--- a tick that v missed found it not ready
+-- N17: a tick that v missed found it not ready
 abbrev pub Unready : Config → ℕ → Moment → Type 0
 Unready g v m = missedTick g v m ≡ true → readyAt (m .before) v ≡ false

@@ -23,7 +23,7 @@ exampleLog =
     ∷ 0x11 ∷ 0x00 ∷ 0x00 ∷ 0x00 ∷ 0x00
     ∷ []
 
--- `0 2 1 1`, `1 1 0 0`, `idle 1`, `ticks 5`
+-- X3: `0 2 1 1`, `1 1 0 0`, `idle 1`, `ticks 5`
 abbrev pub exampleReport : List ℕ
 exampleReport =
     0x30 ∷ 0x20 ∷ 0x32 ∷ 0x20 ∷ 0x31 ∷ 0x20 ∷ 0x31 ∷ 0x0A
@@ -32,7 +32,7 @@ exampleReport =
     ∷ 0x74 ∷ 0x69 ∷ 0x63 ∷ 0x6B ∷ 0x73 ∷ 0x20 ∷ 0x35 ∷ 0x0A
     ∷ []
 
--- `0 0 0 0`, `1 0 0 0`, `idle 0`, `ticks 0`
+-- N21: `0 0 0 0`, `1 0 0 0`, `idle 0`, `ticks 0`
 abbrev pub emptyReport : List ℕ
 emptyReport =
     0x30 ∷ 0x20 ∷ 0x30 ∷ 0x20 ∷ 0x30 ∷ 0x20 ∷ 0x30 ∷ 0x0A

@@ -13,14 +13,14 @@ use Rattle.lines.specs.Words.{number, two}
 use Rattle.tally.specs.Figures.{idleTick, missedTick, spareTick, tableTick}
 use Rattle.tally.specs.Logs.{happensIn}
 
--- `idle ` and `ticks `
+-- N18: `idle ` and `ticks `
 abbrev pub idleWord : List ℕ
 idleWord = 105 ∷ 100 ∷ 108 ∷ 101 ∷ 32 ∷ []
 
 abbrev pub ticksWord : List ℕ
 ticksWord = 116 ∷ 105 ∷ 99 ∷ 107 ∷ 115 ∷ 32 ∷ []
 
--- a VM's line: its number, table ticks, spare ticks, missed ticks
+-- N18: a VM's line: its number, table ticks, spare ticks, missed ticks
 unfoldable pub rowText : ℕ → ℕ → ℕ → ℕ → List ℕ
 rowText v table spare missed = two v table 32 ++ two spare missed 10
 

@@ -12,7 +12,7 @@ ghost use Rattle.text.specs.Puts.{Puts};
 // The most bytes that a report has, and some more.
 const ROOM: usize = 512;
 
-// Puts the report of an image and the figures of its logs, from the buffer's front. A buffer shorter than ROOM takes nothing.
+// Puts the report of an image and the figures of its logs (N18, N21), from the buffer's front. A buffer shorter than ROOM takes nothing.
 pub fn put(b: &mut [u8], image: &[u8], t: Tally) -> usize
     ensures { λ r. ⌜ Puts (shownIn (length (now (b .entry))) (now (image .entry)) t) (now (b .entry)) 0 (now (b .exit)) r × (r ≤ length (now (b .entry))) ⌝ }
 {
@@ -28,7 +28,7 @@ pub fn put(b: &mut [u8], image: &[u8], t: Tally) -> usize
     line::put_tally(b, 0, config.count, t)
 }
 
-// The name of a log's file, for a number of at most two digits.
+// The name of a log's file (N13), for a number of at most two digits.
 pub fn log_name(k: u8) -> [u8; 9]
     ensures { λ r. ⌜ r ≡ logName k ⌝ }
 {

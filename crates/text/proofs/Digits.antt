@@ -48,7 +48,7 @@ width-most n =
     width-cases (λ (k : ℕ). k ≤ 10) n (λ a. omega arith) (λ a b. omega arith) (λ a b. omega arith) (λ a b. omega arith) (λ a b. omega arith)
     (λ a b. omega arith) (λ a b. omega arith) (λ a b. omega arith) (λ a b. omega arith) (λ a. omega arith)
 
--- the width is right: the digits hold the number, and none of them is a zero in front
+-- N3: the width is right: the digits hold the number, and none of them is a zero in front
 pub width-right : (n : ℕ) → n < 2 ^ 32 → (n < 10 ^ width n) × (1 < width n → 10 ^ (width n - 1) ≤ n)
 width-right n h =
     width-cases (λ (k : ℕ). (n < 10 ^ k) × (1 < k → 10 ^ (k - 1) ≤ n)) n

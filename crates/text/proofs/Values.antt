@@ -31,10 +31,12 @@ value-digits base (suc k) n p q h =
     value-more base 0 (digits base k (n / base)) (glyph (n % base))
     ∙ rw (digit-glyph (n % base) (omega (arith, mod-lt n p)), value-digits base k (n / base) p q (div-lt-iff-lt-mul p .1 l)) (div-add-mod' n base)
 
+-- N3
 pub value-decimal : (n : ℕ) → n < 2 ^ 32 → valueOf 10 (decimal n) ≡ n
 unfolding decimal
 value-decimal n h = value-digits 10 (width n) n (omega arith) (omega arith) (width-right n h .0)
 
+-- N3
 pub value-hex8 : (n : ℕ) → n < 2 ^ 32 → valueOf 16 (hex8 n) ≡ n
 unfolding hex8
 value-hex8 n h = value-digits 16 8 n (omega arith) (omega arith) h

@@ -4,7 +4,7 @@ use lib.Dec.{ltb}
 use mathlib.Core.List.{List, [], _++_, _∷_}
 use Rattle.basis.specs.Choice.{pick}
 
--- a digit below 16: `0` to `9`, then `a` to `f`
+-- N3: a digit below 16: `0` to `9`, then `a` to `f`
 unfoldable pub glyph : ℕ → ℕ
 glyph d = pick (ltb d 10) (48 + d) (87 + d)
 
@@ -26,15 +26,15 @@ width n =
     (pick (ltb n 100000000) 8
     (pick (ltb n 1000000000) 9 10))))))))
 
--- with no zero in front
+-- N3: with no zero in front
 unfoldable pub decimal : ℕ → List ℕ
 decimal n = digits 10 (width n) n
 
--- eight hexadecimal digits
+-- N3: eight hexadecimal digits
 unfoldable pub hex8 : ℕ → List ℕ
 hex8 n = digits 16 8 n
 
--- two hexadecimal digits
+-- N10: two hexadecimal digits
 unfoldable pub hexByte : ℕ → List ℕ
 hexByte n = digits 16 2 n
 

@@ -1,3 +1,3 @@
 pub mod Same
-pub mod Worthless
+pub mod Refuted
 pub mod Vectors

@@ -21,7 +21,7 @@ use Rattle.event.specs.declared.Event.{Event}
 use Rattle.guest.specs.Deliver.{deliver, enter}
 use Rattle.guest.specs.Record.{savedAt}
 use Rattle.guest.specs.declared.Vm.{Vm}
-use Rattle.promises.specs.Demands.{callDelivers}
+use Rattle.promises.specs.Delivering.{callDelivers}
 use Rattle.queue.specs.declared.Queue.{Queue}
 use Rattle.trials.specs.Worthless.{callBy, deliveringBy}
 use Rattle.vms.specs.Tick.{entering, turn, turnBy}

@@ -23,33 +23,15 @@ use Rattle.guest.specs.Bits.{clearBit, highest, setBit}
 use Rattle.guest.specs.Deliver.{deliver, due, enter, shown}
 use Rattle.guest.specs.Record.{isBlank, isFresh, pend}
 use Rattle.guest.specs.Write.{isField, stored, write}
-use Rattle.history.specs.History.{countAfter, moments, sinceLast, stateAfter, times}
-use Rattle.history.specs.Moments.{asks, begins, ends, naming}
-use Rattle.history.specs.Queueing.{effect, entriesNot, servedIn}
+use Rattle.history.specs.History.{moments, stateAfter}
 use Rattle.image_reader.specs.Reader.{readEnd, readImage, readSlots, readVms, refused as refusedImage}
 use Rattle.image_reader.specs.Records.{coreFault, ownerFault, slotFault, vmFault}
-use Rattle.promises.specs.Demands.{firstOf, linesOf}
 use Rattle.queue.specs.Entries.{entriesOf, frontOf, others, paddedOf, pushed, rest}
-use Rattle.table.specs.Place.{tableTo}
 use Rattle.table.specs.Position.{hasTicked, nextClock}
 use Rattle.trials.specs.Broken.{Broken, brokenStates, clausesOf, good}
 use Rattle.trials.specs.Vectors.{Vector, callShown, linesIn, removedShown, vectors}
 use Rattle.vms.specs.Records.{each, restFresh}
 use Rattle.vms.specs.Tick.{entering, passed, runnerOf, saving, turn, turnBy}
-
-pub vectors-hold : map (λ (v : Vector). v .found) vectors ≡ map (λ (v : Vector). v .says) vectors
-unfolding vectors linesIn callShown removedShown refusedImage readImage readEnd readSlots readVms coreFault ownerFault slotFault vmFault stepOf refusalOf rowOf sound queuedReady noneReady standingsKnown done startCore tickClock tickTurn tickQueue calledFrom runningWithout refused innerOf legal durationsFit ownersFit vmsServed hasSlot vmsRest slotsRest every some upTo joined isField stored write due deliver enter shown highest setBit clearBit pend isFresh isBlank frontOf rest others pushed paddedOf nextClock each restFresh saving runnerOf entering turnBy passed turn moments stateAfter countAfter times sinceLast tableTo naming asks begins ends entriesOf effect entriesNot servedIn firstOf linesOf
-vectors-hold = refl
-
--- the state that they are made from is sound
-pub good-sound : sound good ≡ true
-unfolding good stepOf refusalOf rowOf sound queuedReady noneReady standingsKnown done startCore tickClock tickTurn tickQueue calledFrom runningWithout refused innerOf legal durationsFit ownersFit vmsServed hasSlot vmsRest slotsRest every some upTo joined isField stored write due deliver enter shown highest setBit clearBit pend isFresh isBlank frontOf rest others pushed paddedOf nextClock each restFresh saving runnerOf entering turnBy passed turn moments stateAfter countAfter times sinceLast tableTo naming asks begins ends entriesOf effect entriesNot servedIn firstOf linesOf
-good-sound = refl
-
--- each breaks the rules that stand beside it, and no other
-pub broken-exactly : map (λ (b : Broken). clausesOf (b .state)) brokenStates ≡ map (λ (b : Broken). b .clauses) brokenStates
-unfolding brokenStates clausesOf good stepOf refusalOf rowOf sound queuedReady noneReady standingsKnown done startCore tickClock tickTurn tickQueue calledFrom runningWithout refused innerOf legal durationsFit ownersFit vmsServed hasSlot vmsRest slotsRest every some upTo joined isField stored write due deliver enter shown highest setBit clearBit pend isFresh isBlank frontOf rest others pushed paddedOf nextClock each restFresh saving runnerOf entering turnBy passed turn moments stateAfter countAfter times sinceLast tableTo naming asks begins ends entriesOf effect entriesNot servedIn firstOf linesOf
-broken-exactly = refl
 
 abbrev AllFalse : List Bool → Type 0
 AllFalse [] = Unit {0}
@@ -58,9 +40,28 @@ AllFalse (b ∷ l) = (b ≡ false) × AllFalse l
 abbrev soundIn : List Broken → List Bool
 soundIn l = map (λ (b : Broken). sound (b .state)) l
 
-broken-unsound : AllFalse (soundIn brokenStates)
-unfolding brokenStates good stepOf refusalOf rowOf sound queuedReady noneReady standingsKnown done startCore tickClock tickTurn tickQueue calledFrom runningWithout refused innerOf legal durationsFit ownersFit vmsServed hasSlot vmsRest slotsRest every some upTo joined isField stored write due deliver enter shown highest setBit clearBit pend isFresh isBlank frontOf rest others pushed paddedOf nextClock each restFresh saving runnerOf entering turnBy passed turn moments stateAfter countAfter times sinceLast tableTo naming asks begins ends entriesOf effect entriesNot servedIn firstOf linesOf
-broken-unsound = (refl, (refl, (refl, (refl, (refl, (refl, (refl, (refl, (refl, (refl, (refl, (refl, (refl, (refl, tt))))))))))))))
+record Computed : Type 0 where
+  vectors : map (λ (v : Vector). v .found) vectors ≡ map (λ (v : Vector). v .says) vectors
+  good : sound good ≡ true
+  broken : map (λ (b : Broken). clausesOf (b .state)) brokenStates ≡ map (λ (b : Broken). b .clauses) brokenStates
+  unsound : AllFalse (soundIn brokenStates)
+
+computed : Computed
+unfolding vectors linesIn callShown removedShown brokenStates clausesOf good refusedImage readImage readEnd readSlots readVms coreFault ownerFault slotFault vmFault stepOf refusalOf rowOf sound queuedReady noneReady standingsKnown done startCore tickClock tickTurn tickQueue calledFrom runningWithout refused innerOf legal durationsFit ownersFit vmsServed hasSlot vmsRest slotsRest every some upTo joined isField stored write due deliver enter shown highest setBit clearBit pend isFresh isBlank frontOf rest others pushed paddedOf nextClock each restFresh saving runnerOf entering turnBy passed turn stateAfter moments entriesOf
+computed =
+    record { vectors = refl; good = refl; broken = refl; unsound = (refl, (refl, (refl, (refl, (refl, (refl, (refl, (refl, (refl, (refl, (refl, (refl, (refl, (refl, tt)))))))))))))) }
+
+-- X1, X2, P1 to P12, C7
+pub vectors-hold : map (λ (v : Vector). v .found) vectors ≡ map (λ (v : Vector). v .says) vectors
+vectors-hold = computed .vectors
+
+-- the state that they are made from is sound
+pub good-sound : sound good ≡ true
+good-sound = computed .good
+
+-- W1 to W12: each breaks the rules that stand beside it, and no other
+pub broken-exactly : map (λ (b : Broken). clausesOf (b .state)) brokenStates ≡ map (λ (b : Broken). b .clauses) brokenStates
+broken-exactly = computed .broken
 
 unsound-refused : (l : List Broken) → AllFalse (soundIn l) → (e : Event) → map (λ (b : Broken). stepOf (b .state) e) l ≡ map (λ (b : Broken). refused (b .state) 1) l
 unsound-refused [] h e = refl
@@ -68,7 +69,7 @@ unsound-refused (b ∷ l) h e = rw (step-unsound (b .state) e (h .0), unsound-re
 
 -- R1, R2, R3: whatever the event, each is answered with refusal 1, shows no VM, and is handed back
 pub broken-refused : (e : Event) → map (λ (b : Broken). stepOf (b .state) e) brokenStates ≡ map (λ (b : Broken). refused (b .state) 1) brokenStates
-broken-refused e = unsound-refused brokenStates broken-unsound e
+broken-refused e = unsound-refused brokenStates (computed .unsound) e
 
 -- W8 cannot be broken alone: with W1 and W9 it holds
 pub slot-follows : (c : Core) → length (c .config .durations) ≡ 64 → configSound c ≡ true → leftSound c ≡ true → slotSound c ≡ true

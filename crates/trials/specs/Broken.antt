@@ -47,6 +47,7 @@ strayConfig =
       durations = 2 ∷ 1 ∷ 1 ∷ zeros 61;
     }
 
+-- W1 to W12
 unfoldable pub brokenStates : List Broken
 brokenStates =
     -- W1: not legal

@@ -7,6 +7,7 @@ use Rattle.config.specs.declared.Config.{Config}
 abbrev pub zeros : ℕ → List ℕ
 zeros n = replicate n 0
 
+-- X1
 abbrev pub example : ℕ → Config
 example room =
     record {

@@ -1,4 +1,6 @@
 pub mod Examples
 pub mod Worthless
+pub mod Spoilt
+pub mod Refuted
 pub mod Broken
 pub mod Vectors

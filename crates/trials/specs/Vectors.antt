@@ -102,6 +102,7 @@ removedBy m = m .answer .removed ∷ entries (m .after .queue)
 unfoldable pub removedShown : ℕ → Event → List ℕ
 removedShown n e = getD (map removedBy (history stepOf (example 4) (Start ∷ Tick 0 ∷ Extra 0 ∷ Extra 1 ∷ Call 4 0 0x1010 ∷ e ∷ []))) (n - 1) []
 
+-- X1, X2, P1 to P12, C7
 unfoldable pub vectors : List Vector
 vectors =
     record { rule = InX1; found = judged exampleImage ∷ partsOf (readImage exampleImage .config); says = (0 ∷ 0 ∷ []) ∷ partsOf (example 1) }

@@ -26,7 +26,7 @@ use Rattle.guest.specs.declared.Found.the-variants.{At, Nothing}
 use Rattle.guest.specs.declared.Found.{Found}
 use Rattle.guest.specs.declared.Vm.{Vm}
 use Rattle.history.specs.History.{Behaviour}
-use Rattle.promises.specs.Demands.{callDelivers}
+use Rattle.promises.specs.Delivering.{callDelivers}
 use Rattle.queue.specs.Entries.{entries, frontOf, ofList}
 use Rattle.vms.specs.Tick.{passed, runnerOf, turnTo}
 use Rattle.vms.specs.declared.Turn.{Turn}
@@ -60,17 +60,17 @@ isDone s = eqb (s .answer .refusal) 0
 abbrev pub tickThen : (Core → Stepped → Stepped) → Core → Event → Stepped
 tickThen f c e = pick (both (isTick e) (isDone (stepOf c e))) (f c (stepOf c e)) (stepOf c e)
 
--- ---- worthless cores
+-- ---- worthless cores (C3)
 
--- refuses everything, with n
+-- C3: refuses everything, with n
 abbrev pub refusesAll : ℕ → Behaviour
 refusesAll n c e = refused c n
 
--- hands the state back untouched
+-- C3: hands the state back untouched
 abbrev pub untouched : Behaviour
 untouched c e = record { core = c; answer = stepOf c e .answer }
 
--- answers idle always
+-- C3: answers idle always
 abbrev pub idleAlways : Behaviour
 idleAlways c e =
     record {
@@ -78,18 +78,19 @@ idleAlways c e =
       answer = record { refusal = stepOf c e .answer .refusal; running = nobody; address = 0; delivered = stepOf c e .answer .delivered; notice = stepOf c e .answer .notice; result = stepOf c e .answer .result; removed = stepOf c e .answer .removed };
     }
 
--- every tick does what the first did: it enters slot 0
+-- the state as if it had never ticked
 abbrev pub unticked : Core → Core
 unticked c = withClock c (record { started = c .clock .started; ticked = 0; slot = 0; left = 0 })
 
+-- C3: every tick does what the first did: it enters slot 0
 abbrev pub repeatsFirst : Behaviour
 repeatsFirst = tickThen (λ c s. withCore s (withClock (s .core) (tickClock (unticked c))))
 
--- makes ticksWhileRunning up
+-- C3: makes ticksWhileRunning up
 abbrev pub invents : Behaviour
 invents = tickThen (λ c s. withCore s (withVm (s .core) (s .core .running) (withShown (vmAt (s .core) (s .core .running)) 7)))
 
--- a VM that had a spare tick gets one tick less of its next slice
+-- M2: a VM that had a spare tick gets one tick less of its next slice
 abbrev pub chargesSpare : Behaviour
 chargesSpare =
     tickThen
@@ -97,15 +98,15 @@ chargesSpare =
     (withCore s (withClock (s .core) (record { started = s .core .clock .started; ticked = 1; slot = s .core .clock .slot; left = s .core .clock .left - 1 })))
     s)
 
--- leaves the entries of a VM that is stopped (M4); it does not test its own soundness, so that it goes on
+-- M4: leaves the entries of a VM that is stopped; it does not test its own soundness, so that it goes on
 abbrev pub leavesEntries : Behaviour
 leavesEntries c e = pick (isStop e) (withCore (innerOf c e) (withQueue (innerOf c e .core) (c .queue))) (innerOf c e)
 
--- serves the newest entry first: a request of the master's goes to the front
+-- D7: serves the newest entry first: a request of the master's goes to the front
 abbrev pub newestFirst : Behaviour
 newestFirst c e = pick (both (isExtra e) (isDone (stepOf c e))) (withCore (stepOf c e) (withQueue c (ofList (byteOf e ∷ entries (c .queue))))) (stepOf c e)
 
--- forgets where a VM was interrupted, when another one runs next
+-- D3: forgets where a VM was interrupted, when another one runs next
 abbrev pub forgetsAddress : Behaviour
 forgetsAddress =
     tickThen
@@ -154,7 +155,7 @@ deliveringBy d i c (Call s n at) =
 deliveringBy d i c (Write o x) = innerOf c (Write o x)
 deliveringBy d i c (Fault k x) = innerOf c (Fault k x)
 
--- M3: empties psIntPending at a delivery
+-- nothing is pending any more
 abbrev pub emptied : Vm → Found → Vm
 emptied w Nothing = w
 emptied w (At n) = withStatus w (withPending (w .status) 0)
@@ -162,10 +163,11 @@ emptied w (At n) = withStatus w (withPending (w .status) 0)
 unfoldable pub deliverEmpty : ℕ → Vm → Delivery
 deliverEmpty handler v = record { vm = emptied (deliver handler v .vm) (deliver handler v .number); number = deliver handler v .number }
 
+-- M3: empties psIntPending at a delivery
 abbrev pub emptiesPending : Behaviour
 emptiesPending = deliveringBy deliverEmpty (λ n. deliverEmpty)
 
--- M3: delivers the lowest number
+-- the first, or else the second
 abbrev pub orElse : Found → Found → Found
 orElse Nothing y = y
 orElse (At n) y = At n
@@ -177,14 +179,15 @@ lowest p (suc n) = orElse (lowest p n) (pick (p n) (At n) Nothing)
 unfoldable pub deliverLow : ℕ → Vm → Delivery
 deliverLow handler v = deliverBy handler v (lowest (λ n. both (bit n (v .status .pending)) (bit n (v .status .enabled))) 32)
 
+-- M3: delivers the lowest number
 abbrev pub lowestFirst : Behaviour
 lowestFirst = deliveringBy deliverLow (λ n. deliverLow)
 
--- service 2 sets its bit and delivers nothing: the bit waits for a tick, a sync or a return
+-- D27: service 2 sets its bit and delivers nothing: the bit waits for a tick, a sync or a return
 abbrev pub injectWaits : Behaviour
 injectWaits = deliveringBy deliver (λ n handler v. quiet v)
 
--- service 2 delivers only the number that it was given, though a higher one is pending and enabled
+-- D27: service 2 delivers only the number that it was given, though a higher one is pending and enabled
 abbrev pub injectsItsOwn : Behaviour
 injectsItsOwn = deliveringBy deliver (λ n handler v. deliverBy handler v (pick (bit n (v .status .enabled)) (At n) Nothing))
 

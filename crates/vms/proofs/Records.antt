@@ -80,6 +80,7 @@ unfolding saving
 saving-other running at l k n =
     pick-case (λ (w : List Vm). getD w k fresh ≡ getD l k fresh) (ltb running 8) _ _ (λ h. getD-set-other l running k _ fresh n) (λ h. refl)
 
+-- D4: records past the VM count do not age
 pub aged-at : (count : ℕ) (l : List Vm) (k : ℕ) → k < length l → getD (agedAll count l) k fresh ≡ pick (ltb k count) (older (getD l k fresh)) (getD l k fresh)
 aged-at count l k h = each-at (λ i v. older v) l count k h
 
@@ -141,6 +142,7 @@ module _ (running at count : ℕ) (l : List Vm) (eight : length l ≡ 8) (v : �
   pub passed-ran : getD (passed running at count l) v fresh .ran ≡ getD l v fresh .ran
   passed-ran = passed-keeps (λ w. w .ran) (λ at w. refl) (λ w. refl) running at count l v
 
+-- D9: before one is entered, no fields change
 pub passed-status : (running at count : ℕ) (l : List Vm) (v : ℕ) → getD (passed running at count l) v fresh .status ≡ getD l v fresh .status
 passed-status running at count l v = passed-keeps (λ w. w .status) (λ at w. refl) (λ w. refl) running at count l v
 

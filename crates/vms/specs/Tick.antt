@@ -15,7 +15,7 @@ use Rattle.guest.specs.declared.Vm.{Vm}
 use Rattle.vms.specs.Records.{agedAll}
 use Rattle.vms.specs.declared.Turn.{Turn}
 
--- the pseudo-interrupt's number, if there is one
+-- A3, C8: the pseudo-interrupt's number, if there is one
 abbrev pub numberOf : Found → ℕ
 numberOf Nothing = nobody
 numberOf (At n) = n
@@ -43,7 +43,7 @@ turnBy who left handlers l = turnTo who (entering who left handlers l) l
 unfoldable pub passed : ℕ → ℕ → ℕ → List Vm → List Vm
 passed running at count l = agedAll count (saving running at l)
 
--- D3, D4, then the VM that runs is chosen and entered
+-- D3, D4, then the VM that runs is chosen and entered (D6 to D9)
 unfoldable pub turn : ℕ → ℕ → ℕ → ℕ → ℕ → ℕ → List ℕ → List Vm → Turn
 turn running at count owner head left handlers l =
     turnBy (runnerOf owner head (passed running at count l)) left handlers (passed running at count l)

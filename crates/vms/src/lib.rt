@@ -96,7 +96,7 @@ pub fn started(vms: [Vm; 8], count: u8, entries: &[u32; 8]) -> [Vm; 8]
     w
 }
 
-// A tick: the address saved, all VMs older, the VM that runs chosen and entered.
+// A tick: the address saved, all VMs older, the VM that runs chosen and entered (D3, D4, D6 to D9).
 pub fn turned(
     vms: [Vm; 8],
     running: u8,
@@ -136,7 +136,7 @@ pub fn turned(
     }
 }
 
-// Who runs in a slot, where `ready` says it of the record that the owner's number leads to.
+// Who runs in a slot (D6, D7), where `ready` says it of the record that the owner's number leads to.
 pub fn runner(owner: u8, head: u8, ready: bool) -> u8
     ensures { λ r. ⌜ r ≡ pick (isSpare owner) head (pick (ltb owner 8) (pick ready owner nobody) nobody) ⌝ }
 {
@@ -152,14 +152,14 @@ pub fn runner(owner: u8, head: u8, ready: bool) -> u8
     basis::NOBODY
 }
 
-// An address that is a VM's; 0 from 8 on.
+// An address that is a VM's; 0 from 8 on (A7).
 pub fn if_vm(who: u8, address: u32) -> u32
     ensures { λ r. ⌜ r ≡ pick (ltb who 8) address 0 ⌝ }
 {
     if who < 8 { address } else { 0 }
 }
 
-// The number of a pseudo-interrupt, or NOBODY for none.
+// The number of a pseudo-interrupt, or NOBODY for none (A3).
 pub fn number_of(f: Found) -> u8
     ensures { λ r. ⌜ r ≡ numberOf f ⌝ }
 {

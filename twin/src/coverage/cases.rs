@@ -13,7 +13,7 @@ use crate::run::frames::Case;
 pub const KIND_NAMES: [&str; 9] =
     ["start", "tick", "stop", "shutdown", "restart", "extra", "call", "write", "fault"];
 
-/// Every refusal that each event kind can get on a run from fresh.
+/// R1: every refusal that each event kind can get on a run from fresh.
 const REFUSALS_BY_KIND: [&[u8]; 9] = [
     &[0, 7],
     &[0, 2],
@@ -26,30 +26,41 @@ const REFUSALS_BY_KIND: [&[u8]; 9] = [
     &[0, 2, 5, 9],
 ];
 
-/// Where a number can be delivered: at a tick, or at the services 0, 1 and 2 (D13).
+/// D13: where a number can be delivered, at a tick or at the services 0, 1 and 2.
 const DELIVERY_NAMES: [&str; 4] = ["tick", "sync", "return", "inject"];
 
-/// The events that remove all entries of their VM from the queue (A8).
+/// A8: the events that remove all entries of their VM from the queue.
 const REMOVAL_NAMES: [&str; 6] =
     ["Stop", "Restart", "Fault", "service 3", "service 2 over 31", "unknown service"];
 
-/// How many they remove; the last goes beside the others.
+/// A8: how many they remove; the last goes beside the others.
 const REMOVED_NAMES: [&str; 4] = ["no entry", "1 entry", "2 entries or more", "entries, others stay"];
 
 #[derive(Clone, Debug)]
 pub struct Coverage {
     pub events: u64,
+    /// R1
     refusals: [[u64; 10]; 9],
+    /// I8
     image_faults: [u64; 9],
     images_accepted: u64,
+    /// L4, N7
     cuts: u64,
+    /// N6
     longs: u64,
+    /// D25 to D30
     services: [u64; 6],
+    /// A4
     notices: [u64; 4],
+    /// A5
     error_codes: [u64; 6],
+    /// A6
     results: [u64; 2],
+    /// D11 to D13
     delivered: [[u64; 32]; DELIVERY_NAMES.len()],
+    /// A8
     removed: [[u64; REMOVED_NAMES.len()]; REMOVAL_NAMES.len()],
+    /// D21, F1 to F10
     fields_written: [u64; 10],
     marks: [u64; Mark::COUNT],
 }

@@ -7,11 +7,11 @@ use crate::core::state::{Standing, ENABLED, PENDING, TICKS_WHILE_RUNNING};
 use crate::core::Core;
 use crate::image::read::{image_body_length, ImageFault, KIND_CORE, KIND_SLOT};
 
-/// An enum of points to reach, each with the name that it is told by.
+/// An enum of points to reach, each with the name that it is told by and the rules that it stands for.
 macro_rules! marks {
-    ($kind:ident: $($mark:ident = $name:expr,)*) => {
+    ($kind:ident: $($(#[$rules:meta])* $mark:ident = $name:expr,)*) => {
         #[derive(Clone, Copy, Debug, PartialEq, Eq)]
-        pub enum $kind { $($mark,)* }
+        pub enum $kind { $($(#[$rules])* $mark,)* }
 
         impl $kind {
             pub const ALL: [$kind; [$($name),*].len()] = [$($kind::$mark),*];
@@ -27,88 +27,171 @@ pub(crate) use marks;
 
 marks! {
     Mark:
+    /// I8, P6
     EmptyImage = "image: empty",
+    /// S9
     FullImage = "image: 332 bytes, accepted",
+    /// I14
     LongerImage = "image: over 332 bytes",
+    /// S1
     OneVm = "image: 1 VM",
+    /// S1
     EightVms = "image: 8 VMs",
+    /// S2
     QueueNone = "image: queue size 0",
+    /// S2, P8
     QueueSixteen = "image: queue size 16",
+    /// S3
     OneSlot = "image: 1 slot",
+    /// S3
     SixtyFourSlots = "image: 64 slots",
+    /// S4
     ShortestSlot = "image: duration 1",
+    /// S4, P7
     LongestSlot = "image: duration 1,000",
+    /// I8
     NoKind = "image: ends where a record should begin",
+    /// I8
     CutBody = "image: ends inside a body",
+    /// I8
     UnknownKind = "image: unknown kind",
+    /// I9
     UnknownLastKind = "image: unknown kind as the last byte",
+    /// I8, I13
     KindOutOfPlace = "image: known kind out of its place",
+    /// I9
     OutOfPlaceAndCut = "image: known kind out of its place, body cut",
+    /// I13
     SecondCore = "image: second core record",
+    /// S1, I8
     NoVms = "image: VM count 0",
+    /// S1, I8
     NineVms = "image: VM count 9",
+    /// S2, I8, P8
     QueueSeventeen = "image: queue size 17",
+    /// S4, I8
     DurationZero = "image: named duration 0",
+    /// S4, I8, P7
     DurationOver = "image: named duration 1,001",
+    /// S4, I8
     SpareZero = "image: spare duration 0",
+    /// S4, I8
     SpareTwo = "image: spare duration 2",
+    /// I9
     NobodyAndDuration = "image: slot of nobody with a bad duration",
+    /// I9
     NobodyAt65 = "image: 65th slot of nobody",
+    /// I13
     EndWithoutSlots = "image: end record right after the VMs",
+    /// I9
     NoSlotAndMore = "image: VM without a slot, and bytes after the end",
+    /// L3, N2
     EmptyLog = "log: empty",
+    /// S9, N6
     FullLog = "log: 60,000 bytes",
+    /// S9, N6
     LongLog = "log: 60,001 bytes",
+    /// N6
     LongerLog = "log: over 60,001 bytes",
+    /// L4, N7
     CutAtKind = "log: unknown kind",
+    /// L4, N7
     CutInBody = "log: short body",
+    /// D5, D10
     TableAgain = "run: the table begins again",
+    /// S4, D5
     LongSlotThrough = "run: last tick of a slot of 1,000",
+    /// T4, D4
     ManyTicks = "run: tick with a VM's age over 10,000",
+    /// T4, D8
     ManyTicksRun = "run: VM with over 5,000 ticks run",
+    /// D6
     IdleNamed = "run: named slot, VM not ready",
+    /// D7
     IdleSpare = "run: spare slot, queue empty",
+    /// D7
     SpareServed = "run: spare slot serves an entry",
+    /// A8, D7
     SpareServesOneOfSome = "run: spare slot serves a VM that has more entries",
+    /// D9
     SpareDelivers = "run: delivery in a spare tick",
+    /// S2, T5
     QueueFull = "run: queue filled to 16",
+    /// T5
     TwiceQueued = "run: same VM twice in the queue",
+    /// R1
     ExtraFullNotReady = "run: Extra for a VM that is not ready, queue full",
+    /// A6, D29
     CallFullSixteen = "run: service 4 with 16 entries",
+    /// A6, R4, D29
     CallFullNone = "run: service 4 with queue size 0",
+    /// A8, D29
     CallFullOwn = "run: service 4 with a full queue, entries of its own in it",
+    /// D15
     StopRunning = "run: Stop of the running VM",
+    /// D14
     StopWaiting = "run: Stop of a VM that does not run",
+    /// A8
     SixteenRemoved = "run: 16 entries removed at once",
+    /// D19
     RestartRunning = "run: Restart of the running VM",
+    /// D18, D19
     RestartWaiting = "run: Restart of a ready VM that does not run",
+    /// R5, D18
     RestartStopped = "run: Restart of a stopped VM",
+    /// R5, D18
     RestartShutDown = "run: Restart of a VM that shut down",
+    /// R5, D18
     RestartInError = "run: Restart of a VM in error",
+    /// R5, D6
     NobodyReady = "run: tick with no VM ready",
+    /// D17, M5
     ShutdownRunning = "run: Shutdown of the running VM, 11 enabled",
+    /// A8, D17
     ShutdownQueued = "run: Shutdown of a VM with entries",
+    /// D17
     ShutdownDelivered = "run: 11 delivered",
+    /// D12, M3
     PendingStays = "run: delivery with other bits still pending",
+    /// D27, P10
     Argument31 = "run: service 2 with 31",
+    /// D27, P10
     Argument32 = "run: service 2 with 32",
+    /// E12, D27
     ArgumentLowBits = "run: service 2 over 31 whose low bits are small",
+    /// D11, D27, P9
     InjectOutranked = "run: service 2 delivers a higher number, its own enabled too",
+    /// D11, D27
     InjectPassedOver = "run: service 2 delivers another number, its own not enabled",
+    /// D27
     InjectNotEnabled = "run: service 2 delivers nothing, its number not enabled",
+    /// D27
     InjectErrorOnly = "run: service 2 over 31 with a number pending and enabled",
+    /// D30
     ServiceFive = "run: service 5",
+    /// E12, D30
     ServiceLast = "run: service 255",
+    /// R1
     Offset37 = "run: Write at offset 37",
+    /// R1
     Offset40 = "run: Write at offset 40",
+    /// R1
     OffsetNoVm = "run: Write at a bad offset while no VM runs",
+    /// R1
     CodeNoVm = "run: Fault of a bad code while no VM runs",
+    /// R1
     CodeTwo = "run: Fault of code 2",
+    /// R1
     CodeSix = "run: Fault of code 6",
+    /// A8, R1
     CodeQueued = "run: Fault of a bad code by a VM with entries",
+    /// D8, M1
     ClockBent = "run: tick after a Write to ticksWhileRunning",
+    /// S1
     VmSeven = "run: VM 7 runs",
+    /// R1
     VmEight = "run: master event for VM 8",
+    /// R1
     VmLast = "run: master event for VM 255",
 }
 

@@ -12,30 +12,55 @@ use crate::report::folder::{LogFile, ReportFolder};
 
 marks! {
     ReportMark:
+    /// N18
     OneVm = "report: 1 VM",
+    /// N18
     EightVms = "report: 8 VMs",
+    /// N21
     RefusedImage = "report: refused image with logs",
+    /// N8, N21
     NoImage = "report: no image, but logs",
+    /// N21
     NoLogs = "report: no logs",
+    /// N13
     SixteenLogs = "report: sixteen logs",
+    /// N13
     SeventeenLogs = "report: a seventeenth log",
+    /// N13
     MissingLog = "report: list ended by a missing log, with later logs present",
+    /// N20
     EmptyLog = "report: empty log",
+    /// N20
     FolderAsLog = "report: folder in place of a log",
+    /// N19
     CutLog = "report: cut log with ticks before the cut",
+    /// N19
     CutAtOnce = "report: log cut at its first byte",
+    /// N19
     CutThenMore = "report: cut log followed by a log that counts",
+    /// N20
     LargestLog = "report: log of 60,000 bytes with ticks",
+    /// N20
     LongLog = "report: oversized log",
+    /// N20
     LongThenMore = "report: oversized log followed by a log that counts",
+    /// N15
     NeverStarted = "report: log that never starts",
+    /// N16
     TableTick = "report: table tick",
+    /// N16
     SpareTick = "report: spare tick",
+    /// N17
     MissedTick = "report: missed tick",
+    /// N17
     IdleSpare = "report: idle tick in a spare slot",
+    /// N16
     EndedInTick = "report: VM stopped within its tick, and counted",
+    /// N15
     RefusedTick = "report: refused tick, not counted",
+    /// N15
     RefusedThenMore = "report: refused tick before an accepted one",
+    /// N15
     TableAgain = "report: table wrapped around in a log",
 }
 

@@ -4,9 +4,8 @@ use borrow.Author.Tests.{eqb-true}
 use lib.Dec.{eqb}
 use mathlib.Core.Bool.{Bool, false, true}
 use mathlib.Core.List.{List, [], _∷_}
-use mathlib.Core.Path.{refl, subst, sym, _∙_, _≡_}
+use mathlib.Core.Path.{ap, refl, _≡_}
 use native.Mathlib.Omega.{arith}
-use Rattle.basis.proofs.Laws.{false-true}
 use Rattle.basis.specs.Choice.{pick}
 use Rattle.basis.specs.Nobody.{nobody}
 use Rattle.config.specs.declared.Config.{Config}
@@ -14,39 +13,18 @@ use Rattle.core.specs.Events.{stepOf}
 use Rattle.core.specs.State.{freshCore}
 use Rattle.core.specs.declared.Core.{Core}
 use Rattle.event.specs.declared.Event.{Event}
-use Rattle.history.proofs.Counts.{eqb-same, num, times-cons, times-nil}
-use Rattle.history.proofs.Lawful.{Backs, Lawful, lawful}
+use Rattle.history.proofs.Counts.{num, times-cons, times-nil}
+use Rattle.history.proofs.Effects.{asks-is, isAdd, isTake, spare-is}
+use Rattle.history.proofs.Lawful.{Lawful, lawful}
 use Rattle.history.proofs.Steps.{Reached, at-fresh, step-at, vm-small}
-use Rattle.history.proofs.Ticking.{asks-adds, spare-front}
+use Rattle.history.proofs.Ticking.{spare-front}
 use Rattle.history.specs.History.{Behaviour, Moment, moment, moments, stateAfter, ticksAfter, times}
 use Rattle.history.specs.Moments.{asks, handed, spare}
 use Rattle.history.specs.Queueing.{Add, Effect, Keep, Remove, Take, affected, effect, removedFrom, removedIn, removes}
-use Rattle.promises.specs.Demands.{Accounts}
+use Rattle.promises.proofs.Meets.Tracing.{ours-queue}
+use Rattle.promises.specs.Sharing.{Accounts}
 use Rattle.queue.proofs.Counts.{entries-add, entries-gone, entries-rest, entries-stay}
 use Rattle.queue.specs.Entries.{entries, entriesOf, frontOf, others}
-
-abbrev isAdd : ℕ → Effect → Bool
-isAdd v Keep = false
-isAdd v Take = false
-isAdd v (Add w) = eqb w v
-isAdd v (Remove w) = false
-
-asks-is : (g : Config) (v : ℕ) (m : Moment) → Lawful g m → num (asks v m) ≡ num (isAdd v (effect g m))
-asks-is g v m l = go (asks v m) refl
-  where
-    back : (f : Effect) → Backs g m f → asks v m ≡ false → 0 ≡ num (isAdd v f)
-    back Keep k a = refl
-    back Take k a = refl
-    back (Add w) k a = by (eqb w v) refl
-      where
-        by : (b : Bool) → eqb w v ≡ b → 0 ≡ num b
-        by true e = false-true (sym a ∙ subst (λ (x : ℕ). asks x m ≡ true) (eqb-true w v e) (k .1))
-        by false e = refl
-    back (Remove w) k a = refl
-
-    go : (b : Bool) → asks v m ≡ b → num b ≡ num (isAdd v (effect g m))
-    go true a = rw (asks-adds g v m a, eqb-same v)
-    go false a = back (effect g m) (l .backed) a
 
 -- ---- one moment
 
@@ -54,7 +32,7 @@ module _ (g : Config) (v : ℕ) (small : v < nobody) (m : Moment) (l : Lawful g 
   -- the entries of v before, and its request, are what was handed to it, what was removed and what stands after
   balance-law : entriesOf v (entries (m .before .queue)) + num (asks v m)
       ≡ num (handed g v m) + (pick (removes g v m) (m .answer .removed) 0 + entriesOf v (entries (m .after .queue)))
-  balance-law = go (effect g m) refl (l .backed) (l .queue) (l .removed) (asks-is g v m l)
+  balance-law = go (effect g m) refl (spare-is g m) (l .queue) (l .removed) (asks-is g m v)
     where
       q₀ : List ℕ
       q₀ = entries (m .before .queue)
@@ -69,12 +47,12 @@ module _ (g : Config) (v : ℕ) (small : v < nobody) (m : Moment) (l : Lawful g 
       removal w true e r = let i = eqb-true w v e in rw (r, i, entries-gone v q₀) (omega arith)
       removal w false e r = omega (arith, entries-stay v w q₀ e)
 
-      go : (f : Effect) → effect g m ≡ f → Backs g m f → entries (m .after .queue) ≡ affected f q₀ → m .answer .removed ≡ removedFrom f q₀ → num (asks v m) ≡ num (isAdd v f)
+      go : (f : Effect) → effect g m ≡ f → spare g m ≡ isTake f → entries (m .after .queue) ≡ affected f q₀ → m .answer .removed ≡ removedFrom f q₀ → asks v m ≡ isAdd v f
           → entriesOf v q₀ + num (asks v m) ≡ num (handed g v m) + (pick (removes g v m) (m .answer .removed) 0 + entriesOf v (entries (m .after .queue)))
       go Keep i k e r a = rw (i, a, idle k, e) (omega arith)
       go Take i k e r a = rw (i, a, taken k, e) (omega (arith, entries-rest v q₀ small))
-      go (Add w) i k e r a = rw (i, a, idle (k .0), e) (omega (arith, entries-add v w q₀))
-      go (Remove w) i k e r a = rw (i, a, idle (k .0), e) (omega (arith, removal w (eqb w v) refl r))
+      go (Add w) i k e r a = rw (i, a, idle k, e) (omega (arith, entries-add v w q₀))
+      go (Remove w) i k e r a = rw (i, a, idle k, e) (omega (arith, removal w (eqb w v) refl r))
 
 removed-cons : (g : Config) (v : ℕ) (m : Moment) (ms : List Moment) → removedIn g v (m ∷ ms) ≡ pick (removes g v m) (m .answer .removed) 0 + removedIn g v ms
 unfolding removedIn
@@ -107,7 +85,8 @@ none-fresh : (g : Config) (v : ℕ) → entriesOf v (entries (freshCore g .queue
 unfolding entriesOf
 none-fresh g v = refl
 
+-- A8, C9
 pub ours-accounts : Accounts stepOf
 ours-accounts g d v h es =
     let small : v < nobody = omega (arith, vm-small g d v h) in
-    record { accepted = omega (arith, none-fresh g v, balance g stepOf (Reached g) (step-at g d) (lawful g d) v small es 0 (freshCore g) (at-fresh g d)) }
+    omega (arith, none-fresh g v, balance g stepOf (Reached g) (step-at g d) (lawful g d) v small es 0 (freshCore g) (at-fresh g d), ap (entriesOf v) (ours-queue g d es))

@@ -11,7 +11,7 @@ use native.Mathlib.Decide.{ℕ-discrete}
 use native.Mathlib.Nat.{mod-add-mod}
 use native.Mathlib.Omega.{arith}
 use Rattle.basis.proofs.Laws.{false-true}
-use Rattle.basis.specs.Choice.{pick}
+use Rattle.basis.specs.Choice.{both, pick}
 use Rattle.basis.specs.Nobody.{nobody}
 use Rattle.change.specs.Answers.{noticeOf}
 use Rattle.change.specs.declared.Change.{Change}
@@ -32,12 +32,13 @@ use Rattle.guest.specs.Deliver.{backFrom, deliver}
 use Rattle.guest.specs.Record.{endedAs, fresh, pend, savedAt, startedAt}
 use Rattle.guest.specs.Write.{write}
 use Rattle.guest.specs.declared.Vm.{Vm}
+use Rattle.history.proofs.More.{moments-more, state-more}
 use Rattle.history.proofs.Steps.{Reached, at-fresh, ours-at, step-at, vm-small}
-use Rattle.history.specs.History.{Behaviour, Moment, history, moment, momentOf, moments, next, sinceLast, stateAfter, stateOf, ticking, ticksAfter, ticksOf}
+use Rattle.history.specs.History.{Behaviour, Moment, history, moment, momentOf, moments, next, sinceLast, stateAfter, stateOf, ticking, ticksAfter, ticksOf, told, went}
 use Rattle.history.specs.Moments.{begins, ranIn}
-use Rattle.promises.proofs.Starting.{count-few, start-ready}
-use Rattle.promises.proofs.Ticks.{tick-age, tick-ran, tick-shows}
-use Rattle.promises.specs.Demands.{Clocks, Shows, ageIn, ranSince}
+use Rattle.promises.proofs.Meets.Starting.{count-few, start-ready}
+use Rattle.promises.proofs.Meets.Ticks.{tick-age, tick-ran, tick-shows}
+use Rattle.promises.specs.Timing.{Clocks, Shows, ageIn, ranSince}
 use Rattle.vms.proofs.Records.{store-keeps}
 
 -- ---- any count, by what each event makes of it
@@ -46,7 +47,7 @@ module _ (b : Behaviour) (Inv : ℕ → Core → Type 0) (keeps : (k : ℕ) (c :
     (count : Core → ℕ) (clears grows : Moment → Bool)
     (law : (k : ℕ) (c : Core) → Inv k c → (e : Event) → count (b c e .core) ≡ pick (clears (moment b k c e)) 0 (pick (grows (moment b k c e)) ((count c + 1) % 2 ^ 32) (count c))) where
   pub counted : (es : List Event) (k : ℕ) (c : Core) (n : ℕ) → Inv k c → count c ≡ n % 2 ^ 32 → count (stateAfter b c es) ≡ sinceLast clears grows n (moments b k c es) % 2 ^ 32
-  unfolding stateAfter sinceLast moments
+  unfolding stateAfter told moments
   counted [] k c n i h = h
   counted (e ∷ es) k c n i h =
       counted es _ (b c e .core) (pick (clears (moment b k c e)) 0 (pick (grows (moment b k c e)) (n + 1) n)) (keeps k c i e)
@@ -76,14 +77,6 @@ steady-ran = record { saved = λ at v. refl; ended = λ t v. refl; back = λ v. 
 
 change-keeps : (f : Vm → ℕ) (c : Core) (v : ℕ) (x : Change) → f (x .vm) ≡ f (vmAt c (x .place)) → f (vmAt (changedBy c x .core) v) ≡ f (vmAt c v)
 change-keeps f c v x h = store-keeps f (c .vms) (x .place) (x .vm) h v
-
--- no Write moves it
-write-keeps : (f : Vm → ℕ) → Steady f → (c : Core) (v o x : ℕ) → f (vmAt (stepOf c (Write o x) .core) v) ≡ f (vmAt c v)
-unfolding refused done
-write-keeps f steady c v o x =
-    step-case c (Write o x) (λ (s : Stepped). f (vmAt (s .core) v) ≡ f (vmAt c v))
-    (λ n q h. refl)
-    (λ s r. change-keeps f c v (renewed c (c .running) (write o x (vmAt c (c .running))) nobody) (steady .wrote o x (vmAt c (c .running))))
 
 module _ (f : Vm → ℕ) (steady : Steady f) (g : Config) (d : Given g) (v : ℕ) (low : v < g .count) (grows : Moment → Bool) (still : (m : Moment) → ticking m ≡ false → grows m ≡ false) where
   -- what the count is to be after a moment
@@ -189,11 +182,6 @@ module _ (g : Config) (d : Given g) (v : ℕ) (low : v < g .count) where
       fresh-zero : (f : Vm → ℕ) → f fresh ≡ 0 → f (vmAt (freshCore g) v) ≡ 0
       fresh-zero f h = ap f (getD-replicate 8 v fresh fresh (vm-small g d v low)) ∙ h
 
-state-snoc : (b : Behaviour) (es : List Event) (c : Core) (e : Event) → stateAfter b c (es ++ (e ∷ [])) ≡ b (stateAfter b c es) e .core
-unfolding stateAfter
-state-snoc b [] c e = refl
-state-snoc b (x ∷ es) c e = state-snoc b es (b c x .core) e
-
 -- D8: what the three fields show
 tick-fields : (k : ℕ) (c : Core) (at v : ℕ) → length (c .vms) ≡ 8 → v < 8 → ranIn v (moment stepOf k c (Tick at)) ≡ true
     → (vmAt (stepOf c (Tick at) .core) v .status .since ≡ ageOf v (stepOf c (Tick at) .core))
@@ -207,30 +195,31 @@ tick-fields k c at v q small =
     (λ n z h r. false-true (rw (ne-eqb n 0 h) at r))
     (λ s z r. tick-shows c at q v small (eqb-true (tickTurn c at .who) v r))
 
-pub ours-clock : Clocks stepOf
-ours-clock g d v low es =
+-- T4, D4, C5
+pub ours-clocks : Clocks stepOf
+ours-clocks g d es = record { age = λ v low. ages g d v low es; ran = λ v low. runs-counted g d v low es }
+
+no-tick : {X : Type 0} (w r : Bool) → both (both w false) r ≡ true → X
+no-tick true r h = false-true h
+no-tick false r h = false-true h
+
+-- D8, C4
+pub ours-shows : Shows stepOf
+ours-shows g d es Start v low h = no-tick (went (next stepOf g es Start)) _ h
+ours-shows g d es (Tick at) v low h =
+    let p = ours-at g d es in
+    let f = tick-fields (ticksOf stepOf g es) (stateOf stepOf g es) at v (p .shaped .records) (vm-small g d v low) h in
+    let z = state-more stepOf es (freshCore g) (Tick at) in
+    let m = moments-more stepOf es 0 (freshCore g) (Tick at) in
     record {
-      age = ages g d v low es;
-      ran = runs-counted g d v low es;
-      shown = shows;
-      written = λ o x. (write-keeps (λ w. w .age) steady-age c v o x, write-keeps (λ w. w .ran) steady-ran c v o x);
+      age = f .0 ∙ ap (ageOf v) (sym z) ∙ ages g d v low (es ++ (Tick at ∷ [])) ∙ ap (λ (ms : List Moment). ageIn v ms % 2 ^ 32) m;
+      left = f .1;
+      ran = f .2 ∙ ap (ranOf v) (sym z) ∙ runs-counted g d v low (es ++ (Tick at ∷ [])) ∙ ap (λ (ms : List Moment). ranSince v ms % 2 ^ 32) m;
     }
-  where
-    k : ℕ
-    k = ticksOf stepOf g es
-
-    c : Core
-    c = stateOf stepOf g es
-
-    p : Reached g k c
-    p = ours-at g d es
-
-    shows : (at : ℕ) → ranIn v (next stepOf g es (Tick at)) ≡ true → Shows v (next stepOf g es (Tick at) .after) (history stepOf g (es ++ (Tick at ∷ [])))
-    shows at r =
-        (let f = tick-fields k c at v (p .shaped .records) (vm-small g d v low) r in
-        let z = state-snoc stepOf es (freshCore g) (Tick at) in
-        record {
-          age = f .0 ∙ ap (ageOf v) (sym z) ∙ ages g d v low (es ++ (Tick at ∷ []));
-          left = f .1;
-          ran = f .2 ∙ ap (ranOf v) (sym z) ∙ runs-counted g d v low (es ++ (Tick at ∷ []));
-        })
+ours-shows g d es (Stop w) v low h = no-tick (went (next stepOf g es (Stop w))) _ h
+ours-shows g d es (Shutdown w) v low h = no-tick (went (next stepOf g es (Shutdown w))) _ h
+ours-shows g d es (Restart w) v low h = no-tick (went (next stepOf g es (Restart w))) _ h
+ours-shows g d es (Extra w) v low h = no-tick (went (next stepOf g es (Extra w))) _ h
+ours-shows g d es (Call i n at) v low h = no-tick (went (next stepOf g es (Call i n at))) _ h
+ours-shows g d es (Write o x) v low h = no-tick (went (next stepOf g es (Write o x))) _ h
+ours-shows g d es (Fault i x) v low h = no-tick (went (next stepOf g es (Fault i x))) _ h

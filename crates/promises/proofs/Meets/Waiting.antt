@@ -1,27 +1,29 @@
 -- Ours meets the third demand on waiting: an accepted request is served by the spare tick after those that its elders take.
 use Prim.Native.Nat.{ℕ, _+_, _<_}
-use borrow.Author.Tests.{eq-eqb, eqb-false, eqb-true, ne-eqb}
+use borrow.Author.Tests.{eq-eqb}
 use lib.Dec.{eqb}
 use lib.ListN.{length}
 use mathlib.Core.Bool.{Bool, false, true}
 use mathlib.Core.List.{List, append-assoc, map, [], _++_, _∷_}
-use mathlib.Core.Path.{ap, refl, subst, sym, _∙_, _≡_}
+use mathlib.Core.Path.{ap, refl, sym, _∙_, _≡_}
 use native.Mathlib.Omega.{arith}
-use Rattle.basis.proofs.Laws.{false-true}
 use Rattle.basis.specs.Choice.{both, pick}
 use Rattle.basis.specs.Nobody.{nobody}
 use Rattle.config.specs.declared.Config.{Config}
 use Rattle.core.specs.Events.{stepOf}
 use Rattle.core.specs.declared.Core.{Core}
 use Rattle.event.specs.declared.Event.{Event}
-use Rattle.history.proofs.Counts.{num, times-cons, times-nil}
-use Rattle.history.proofs.Lawful.{Backs, Lawful, lawful}
-use Rattle.history.proofs.Steps.{Reached, each-of, ours-at, step-at, vm-small}
+use Rattle.history.proofs.Counts.{eqb-swap, num, times-cons, times-nil}
+use Rattle.history.proofs.Effects.{isTake, removes-is, spare-is}
+use Rattle.history.proofs.Lawful.{Lawful, lawful}
+use Rattle.history.proofs.Steps.{Reached, ours-at, step-at, vm-small}
 use Rattle.history.proofs.Ticking.{asks-adds, spare-front}
-use Rattle.history.specs.History.{Behaviour, Moment, moment, moments, next, ticksAfter, times}
-use Rattle.history.specs.Moments.{ends, runs, spare}
-use Rattle.history.specs.Queueing.{Add, Effect, Entry, Follows, Keep, Remove, Take, affected, effect, entriesNot, followed, isRemove, marked, mineFirst, plain, removes, servedIn, tail}
-use Rattle.promises.specs.Demands.{Waiting}
+use Rattle.history.specs.History.{Behaviour, Moment, history, moment, moments, next, ticksAfter, times}
+use Rattle.history.specs.Moments.{runs, spare}
+use Rattle.history.specs.Queueing.{Add, Effect, Entry, Follows, Keep, Remove, Take, affected, effect, entriesNot, followed, isRemove, marked, mineFirst, plain, servedIn, tail}
+use Rattle.history.specs.Telling.{ends, queueIn}
+use Rattle.promises.proofs.Meets.Tracing.{ours-queue}
+use Rattle.promises.specs.Sharing.{Waiting}
 use Rattle.queue.proofs.Meaning.{others-length}
 use Rattle.queue.specs.Entries.{entries, frontOf, others, rest}
 
@@ -71,21 +73,6 @@ not-mine w v (x ∷ p) z e = go (eqb x w) (not-mine w v p z e)
     go true h = h
     go false h = rw h
 
-eqb-turn : (a b : ℕ) → eqb a b ≡ false → eqb b a ≡ false
-eqb-turn a b e = ne-eqb b a (λ i. eqb-false a b e (sym i))
-
--- ---- what excuses a request that is not served
-
--- an event that takes v's entries away leaves v no longer ready, or is its restart
-excused-law : (g : Config) (v : ℕ) (m : Moment) → Lawful g m → removes g v m ≡ true → ends v m ≡ true
-excused-law g v m l = go (effect g m) (l .backed)
-  where
-    go : (f : Effect) → Backs g m f → isRemove v f ≡ true → ends v m ≡ true
-    go Keep k h = false-true h
-    go Take k h = false-true h
-    go (Add w) k h = false-true h
-    go (Remove w) k h = subst (λ (x : ℕ). ends x m ≡ true) (eqb-true w v h) (k .1)
-
 none-left : (p : Moment → Bool) (m : Moment) (ms : List Moment) → times p (m ∷ ms) ≡ 0 → (p m ≡ false) × (times p ms ≡ 0)
 none-left p m ms h = (go (p m) (omega (arith, times-cons p m ms)), omega (arith, times-cons p m ms))
   where
@@ -95,7 +82,7 @@ none-left p m ms h = (go (p m) (omega (arith, times-cons p m ms)), omega (arith,
 
 -- ---- one moment of waiting: v's request has the entries p ahead of it and z behind it
 
-module _ (g : Config) (v : ℕ) (small : v < nobody) (m : Moment) (l : Lawful g m) (ms : List Moment) (stays : removes g v m ≡ false)
+module _ (g : Config) (v : ℕ) (small : v < nobody) (m : Moment) (l : Lawful g m) (ms : List Moment) (stays : ends v m ≡ false)
     (ih : (p : List ℕ) (z : List Entry) → vmsOf (map plain p ++ (marked v ∷ z)) ≡ entries (m .after .queue) → length p < times (spare g) ms → servedIn g v (map plain p ++ (marked v ∷ z)) ms ≡ true) where
   on : (f : Effect) (q : List Entry) → vmsOf q ≡ entries (m .before .queue) → entries (m .after .queue) ≡ affected f (entries (m .before .queue)) → vmsOf (followed f q) ≡ entries (m .after .queue)
   on f q e a = vms-followed f q ∙ ap (affected f) e ∙ sym a
@@ -110,24 +97,24 @@ module _ (g : Config) (v : ℕ) (small : v < nobody) (m : Moment) (l : Lawful g 
   wait-step : (p : List ℕ) (z : List Entry) → vmsOf (map plain p ++ (marked v ∷ z)) ≡ entries (m .before .queue) → length p < num (spare g m) + times (spare g) ms
       → servedIn g v (map plain p ++ (marked v ∷ z)) (m ∷ ms) ≡ true
   unfolding servedIn
-  wait-step p z e n = go (effect g m) refl (l .backed) (l .queue)
+  wait-step p z e n = go (effect g m) refl (spare-is g m) (l .queue)
     where
       q : List Entry
       q = map plain p ++ (marked v ∷ z)
 
       other : (w : ℕ) → effect g m ≡ Remove w → eqb v w ≡ false
-      other w i = eqb-turn w v (sym (ap (isRemove v) i) ∙ stays)
+      other w i = eqb-swap v w ∙ sym (ap (isRemove v) i) ∙ removes-is g m v ∙ stays
 
-      go : (f : Effect) → effect g m ≡ f → Backs g m f → entries (m .after .queue) ≡ affected f (entries (m .before .queue))
+      go : (f : Effect) → effect g m ≡ f → spare g m ≡ isTake f → entries (m .after .queue) ≡ affected f (entries (m .before .queue))
           → pick (both (spare g m) (mineFirst q)) (runs v m) (servedIn g v (followed (effect g m) q) ms) ≡ true
       go Keep i k a = rw (k, i) (ih p z (on Keep q e a) (omega (arith, n, ap num k)))
       go Take i k a = take-step p z e n i k a
       go (Add w) i k a =
           let j = append-assoc (map plain p) (marked v ∷ z) (plain w ∷ []) in
-          rw (k .0, i, j) (ih p (z ++ (plain w ∷ [])) (rw j at (on (Add w) q e a)) (omega (arith, n, ap num (k .0))))
+          rw (k, i, j) (ih p (z ++ (plain w ∷ [])) (rw j at (on (Add w) q e a)) (omega (arith, n, ap num k)))
       go (Remove w) i k a =
           let j = not-mine w v p z (other w i) in
-          rw (k .0, i, j) (ih (others w p) (entriesNot w z) (rw j at (on (Remove w) q e a)) (omega (arith, n, ap num (k .0), others-length w p)))
+          rw (k, i, j) (ih (others w p) (entriesNot w z) (rw j at (on (Remove w) q e a)) (omega (arith, n, ap num k, others-length w p)))
 
 -- ---- a stretch of any behaviour whose moments are lawful
 
@@ -135,13 +122,13 @@ module _ (g : Config) (b : Behaviour) (Inv : ℕ → Core → Type 0)
     (keeps : (k : ℕ) (c : Core) → Inv k c → (e : Event) → Inv (ticksAfter (moment b k c e)) (b c e .core))
     (law : (k : ℕ) (c : Core) → Inv k c → (e : Event) → Lawful g (moment b k c e)) (v : ℕ) (small : v < nobody) where
   pub wait : (es : List Event) (k : ℕ) (c : Core) → Inv k c → (p : List ℕ) (z : List Entry) → vmsOf (map plain p ++ (marked v ∷ z)) ≡ entries (c .queue)
-      → times (removes g v) (moments b k c es) ≡ 0 → length p < times (spare g) (moments b k c es) → servedIn g v (map plain p ++ (marked v ∷ z)) (moments b k c es) ≡ true
+      → times (ends v) (moments b k c es) ≡ 0 → length p < times (spare g) (moments b k c es) → servedIn g v (map plain p ++ (marked v ∷ z)) (moments b k c es) ≡ true
   unfolding moments
   wait [] k c i p z e r n = absurd (omega (arith, n, times-nil (spare g)))
   wait (e ∷ es) k c i p z q r n =
       let m = moment b k c e in
       let ms = moments b (ticksAfter m) (b c e .core) es in
-      let o = none-left (removes g v) m ms r in
+      let o = none-left (ends v) m ms r in
       wait-step g v small m (law k c i e) ms (o .0) (λ p z f n. wait es (ticksAfter m) (b c e .core) (keeps k c i e) p z f (o .1) n) p z q (omega (arith, n, times-cons (spare g) m ms))
 
   pub follows : (es : List Event) (k : ℕ) (c : Core) → Inv k c → (q : List Entry) → vmsOf q ≡ entries (c .queue) → Follows g q (moments b k c es)
@@ -153,6 +140,7 @@ module _ (g : Config) (b : Behaviour) (Inv : ℕ → Core → Type 0)
 
 -- ---- ours
 
+-- T5, D7
 pub ours-waiting : Waiting stepOf
 ours-waiting g d v h es e fs a =
     let small : v < nobody = omega (arith, vm-small g d v h) in
@@ -160,11 +148,11 @@ ours-waiting g d v h es e fs a =
     let m = next stepOf g es e in
     let j = step-at g d _ _ i e in
     let l = lawful g d _ _ i e in
-    let q = entries (m .before .queue) in
+    let q = queueIn g (history stepOf g es) in
+    let before : entries (m .before .queue) ≡ q = ours-queue g d es in
     let joins : vmsOf (map plain q ++ (marked v ∷ [])) ≡ entries (m .after .queue) =
-    vms-append (map plain q) (marked v ∷ []) ∙ ap (λ (x : List ℕ). x ++ (v ∷ [])) (vms-plain q) ∙ sym (l .queue ∙ ap (λ (f : Effect). affected f q) (asks-adds g v m a)) in
+    vms-append (map plain q) (marked v ∷ []) ∙ ap (λ (x : List ℕ). x ++ (v ∷ [])) (vms-plain q) ∙ sym (l .queue ∙ ap (λ (f : Effect). affected f (entries (m .before .queue))) (asks-adds g v m a) ∙ ap (λ (x : List ℕ). x ++ (v ∷ [])) before) in
     record {
       is-queue = follows g stepOf (Reached g) (step-at g d) (lawful g d) v small fs (ticksAfter m) (m .after) j (map plain q ++ (marked v ∷ [])) joins;
       served = wait g stepOf (Reached g) (step-at g d) (lawful g d) v small fs (ticksAfter m) (m .after) j q [] joins;
-      excused = each-of stepOf (Reached g) (step-at g d) _ (λ k c i e. excused-law g v (moment stepOf k c e) (lawful g d k c i e)) fs (ticksAfter m) (m .after) j;
     }

@@ -11,17 +11,19 @@ use Rattle.core.specs.declared.Stepped.{Stepped}
 use Rattle.core_laws.proofs.Refused.{step-number}
 use Rattle.core_laws.proofs.View.{step-refused}
 use Rattle.event.specs.declared.Event.{Event}
-use Rattle.promises.specs.Demands.{Refuses, firstOf, linesOf, saysNo}
+use Rattle.guest.specs.Write.{isField}
+use Rattle.promises.specs.Refusing.{Refuses, firstOf, linesOf, saysNo}
 
--- the rows of the core's definition are the lines of the table
+-- R1: the rows of the core's definition are the lines of the table
 pub lines-first : (c : Core) (e : Event) → firstOf (linesOf c e) ≡ refusalOf c e
-unfolding firstOf linesOf refusalOf rowOf
+unfolding firstOf linesOf refusalOf rowOf isField
 lines-first c e = go (sound c) (rowOf c e)
   where
     go : (b : Bool) (n : ℕ) → pick (not b) 1 n ≡ pick b n 1
     go true n = refl
     go false n = refl
 
+-- R1 to R4
 pub ours-refuses : Refuses stepOf
 unfolding refused
 ours-refuses c e =

@@ -5,11 +5,10 @@ use lib.Bits.{bitOr}
 use lib.ListN.{getD, set}
 use lib.Seq.{getD-set-same}
 use mathlib.Core.Bool.{false, true}
+use mathlib.Core.List.{List}
 use mathlib.Core.Path.{ap, refl, subst, sym, _∙_, _≡_}
 use native.Mathlib.Omega.{arith}
 use Rattle.basis.proofs.Laws.{false-true}
-use Rattle.basis.specs.Bits.{bit}
-use Rattle.basis.specs.Choice.{both}
 use Rattle.basis.specs.Nobody.{nobody}
 use Rattle.change.specs.Changes.{calledFrom, deliveringFrom}
 use Rattle.change.specs.declared.Change.{Change}
@@ -28,50 +27,41 @@ use Rattle.core_laws.proofs.Refused.{done-number}
 use Rattle.core_laws.proofs.View.{call-case, row-call, row-shutdown, step-case}
 use Rattle.event.specs.declared.Event.the-variants.{Call, Extra, Fault, Restart, Shutdown, Start, Stop, Tick, Write}
 use Rattle.event.specs.declared.Event.{Event}
-use Rattle.guest.proofs.Facts.{deliver-hit, deliver-number, deliver-quiet, pend-address, pend-enabled, pend-pending}
-use Rattle.guest.specs.Bits.{clearBit, highest}
-use Rattle.guest.specs.Deliver.{backFrom, deliver, due, enter, shown}
+use Rattle.guest.proofs.Facts.{deliver-hit, deliver-quiet, pend-address, pend-enabled, pend-pending}
+use Rattle.guest.specs.Bits.{clearBit}
+use Rattle.guest.specs.Deliver.{backFrom, deliver, enter, shown}
 use Rattle.guest.specs.Record.{endedAs, fresh, pend, savedAt}
 use Rattle.guest.specs.declared.Delivery.{Delivery}
-use Rattle.guest.specs.declared.Found.the-variants.{At, Nothing}
 use Rattle.guest.specs.declared.Status.{Status}
 use Rattle.guest.specs.declared.Vm.{Vm}
 use Rattle.history.proofs.Steps.{Reached, ours-at, vm-small}
-use Rattle.history.specs.History.{Moment, moment, momentOf, stateOf, ticksOf}
-use Rattle.promises.proofs.Starting.{count-few}
-use Rattle.promises.proofs.Ticks.{passedOf, tick-enters, tick-number, tick-passes, tick-silent}
-use Rattle.promises.specs.Demands.{Delivered, Delivers, DeliversAtCall, DeliversAtTick, DeliversBy, DeliversOf, Enters, GoesOn, Offer, callDelivers, dueOf, tickOffer}
+use Rattle.history.specs.History.{Moment, history, moment, momentOf, stateOf, ticksOf}
+use Rattle.promises.proofs.Due.{found-none, highest-found}
+use Rattle.promises.proofs.Meets.Starting.{count-few}
+use Rattle.promises.proofs.Meets.Ticks.{passedOf, tick-enters, tick-number, tick-passes, tick-silent}
+use Rattle.promises.specs.Delivering.{Delivered, Delivers, DeliversAtCall, DeliversAtTick, DeliversBy, DeliversOf, Enters, GoesOn, Highest, NoneDue, Offer, callDelivers, tickOffer}
 use Rattle.vms.proofs.Records.{passed-address, passed-status}
 use Rattle.vms.specs.Tick.{numberOf}
 
 -- ---- a delivery to a VM that has what the offer says
 
 module _ (h : ℕ) (x : Vm) (o : Offer) (pending : x .status .pending ≡ o .pending) (enabled : x .status .enabled ≡ o .enabled) (address : x .address ≡ o .address) where
-  due-offer : due (x .status) ≡ dueOf o
-  unfolding due
-  due-offer =
-      ap (λ (p : ℕ). highest (λ n. both (bit n p) (bit n (x .status .enabled))) 32) pending
-      ∙ ap (λ (p : ℕ). highest (λ n. both (bit n (o .pending)) (bit n p)) 32) enabled
-
-  delivered-number : numberOf (deliver h x .number) ≡ numberOf (dueOf o)
-  delivered-number = ap numberOf (deliver-number h x ∙ due-offer)
-
-  delivered-none : dueOf o ≡ Nothing → GoesOn o (deliver h x .vm)
+  delivered-none : NoneDue o → (numberOf (deliver h x .number) ≡ nobody) × GoesOn o (deliver h x .vm)
   delivered-none e =
-      subst (λ (r : Delivery). GoesOn o (r .vm)) (sym (deliver-quiet h x (due-offer ∙ e)))
-      (record { pending = pending; enabled = enabled; address = address })
+      subst (λ (r : Delivery). (numberOf (r .number) ≡ nobody) × GoesOn o (r .vm)) (sym (deliver-quiet h x (found-none o (x .status) pending enabled e)))
+      (refl, record { pending = pending; enabled = enabled; address = address })
 
-  delivered-one : (n : ℕ) → dueOf o ≡ At n → Enters h n o (deliver h x .vm)
+  delivered-one : (n : ℕ) → Highest o n → (numberOf (deliver h x .number) ≡ n) × Enters h n o (deliver h x .vm)
   delivered-one n e =
-      subst (λ (r : Delivery). Enters h n o (r .vm)) (sym (deliver-hit h n x (due-offer ∙ e)))
-      (record { reason = refl; previous = enabled; enabled = refl; pending = ap (clearBit n) pending; resume = address; address = refl })
+      subst (λ (r : Delivery). (numberOf (r .number) ≡ n) × Enters h n o (r .vm)) (sym (deliver-hit h n x (highest-found o (x .status) pending enabled n e)))
+      (refl, record { reason = refl; previous = enabled; enabled = refl; pending = ap (clearBit n) pending; resume = address; address = refl })
 
   pub delivered : (g : Config) (m : Moment) → m .answer .delivered ≡ numberOf (deliver h x .number) → vmAt (m .after) (o .vm) ≡ deliver h x .vm → h ≡ handlerAt g (o .vm) → Delivered g o m
   delivered g m a b e =
       record {
-        number = a ∙ delivered-number;
-        goes-on = λ i. subst (λ (w : Vm). GoesOn o w) (sym b) (delivered-none i);
-        enters = λ n i. subst (λ (w : Vm). Enters (handlerAt g (o .vm)) n o w) (sym b) (subst (λ (y : ℕ). Enters y n o (deliver h x .vm)) e (delivered-one n i));
+        quiet = λ i. (let r = delivered-none i in (a ∙ r .0, subst (λ (w : Vm). GoesOn o w) (sym b) (r .1)));
+        given = λ n i. (let r = delivered-one n i in
+            (a ∙ r .0, subst (λ (w : Vm). Enters (handlerAt g (o .vm)) n o w) (sym b) (subst (λ (y : ℕ). Enters y n o (deliver h x .vm)) e (r .1))));
       }
 
 -- ---- each event
@@ -179,12 +169,13 @@ module _ (g : Config) (d : Given g) (k : ℕ) (c : Core) (p : Reached g k c) whe
   done-delivers (Write o x) s r = refl
   done-delivers (Fault n x) s r = refl
 
-  step-delivers : (e : Event) → DeliversOf g (moment stepOf k c e)
+  step-delivers : (ms : List Moment) (e : Event) → DeliversOf g ms (moment stepOf k c e)
   unfolding refused
-  step-delivers e =
-      step-case c e (λ (s : Stepped). DeliversOf g (momentOf k c e s))
+  step-delivers ms e =
+      step-case c e (λ (s : Stepped). DeliversOf g ms (momentOf k c e s))
       (λ n q h. record { refused = λ w. refl; accepted = λ w. false-true (sym (ne-eqb n 0 h) ∙ w) })
       (λ s r. record { refused = λ w. false-true (sym w ∙ eq-eqb _ 0 (done-number c e)); accepted = λ w. done-delivers e s r })
 
+-- A3, D3, D9, D11 to D13, D17, D22, D24 to D27
 pub ours-delivers : Delivers stepOf
-ours-delivers g d es e = step-delivers g d (ticksOf stepOf g es) (stateOf stepOf g es) (ours-at g d es) e
+ours-delivers g d es e = step-delivers g d (ticksOf stepOf g es) (stateOf stepOf g es) (ours-at g d es) (history stepOf g es) e

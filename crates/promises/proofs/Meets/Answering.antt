@@ -17,13 +17,13 @@ use Rattle.event.specs.declared.Event.the-variants.{Call, Extra, Fault, Restart
 use Rattle.event.specs.declared.Event.{Event}
 use Rattle.guest.specs.Record.{savedAt}
 use Rattle.history.specs.History.{stateOf, ticksOf}
-use Rattle.promises.proofs.Starting.{ours-stays-sound, when-done}
-use Rattle.promises.specs.Demands.{Tells, noticeBy, resultBy}
+use Rattle.promises.proofs.Meets.Starting.{ours-stays-sound, when-done}
+use Rattle.promises.specs.Answering.{Tells, noticeBy, resultBy}
 
-call-notice : (c : Core) (s n at : ℕ) → done c (Call s n at) .answer .notice ≡ noticeBy c (Call s n at)
+call-notice : (c : Core) (s n at : ℕ) → done c (Call s n at) .answer .notice ≡ noticeBy (c .running) (Call s n at)
 unfolding done
 call-notice c s n at =
-    call-case (λ (x : Change). x .notice ≡ noticeBy c (Call s n at)) (c .running) (c .queue) (full c) (handlerAt (c .config) (c .running)) (c .running) s n (savedAt at (vmAt c (c .running)))
+    call-case (λ (x : Change). x .notice ≡ noticeBy (c .running) (Call s n at)) (c .running) (c .queue) (full c) (handlerAt (c .config) (c .running)) (c .running) s n (savedAt at (vmAt c (c .running)))
     (λ h. rw h) (λ h. rw h) (λ h i. rw (h, le-leb n 31 i)) (λ h i. rw (h, lt-leb n 31 i)) (λ h. rw h) (λ h i. rw h) (λ h i. rw h)
     (λ h. (let a = ne-eqb s 2 (λ e. omega arith) in let b = ne-eqb s 3 (λ e. omega arith) in let d = lt-leb s 4 h in rw (a, b, d)))
 
@@ -34,7 +34,7 @@ call-result c s n at =
     (λ h. rw h) (λ h. rw h) (λ h i. rw h) (λ h i. rw h) (λ h. rw h) (λ h i. rw (h, i)) (λ h i. rw (h, i))
     (λ h. rw (ne-eqb s 4 (λ e. omega arith)))
 
-done-notice : (c : Core) (e : Event) → done c e .answer .notice ≡ noticeBy c e
+done-notice : (c : Core) (e : Event) → done c e .answer .notice ≡ noticeBy (c .running) e
 unfolding done
 done-notice c Start = refl
 done-notice c (Tick at) = refl
@@ -58,6 +58,7 @@ done-result c (Call s n at) = call-result c s n at
 done-result c (Write o x) = refl
 done-result c (Fault k d) = refl
 
+-- A1, A2, A4 to A7
 pub ours-tells : Tells stepOf
 ours-tells g d es e =
     let c = stateOf stepOf g es in
@@ -65,6 +66,6 @@ ours-tells g d es e =
     record {
       running = t .0;
       address = t .1;
-      notice = when-done (ticksOf stepOf g es) c e (λ (s : Stepped). s .answer .notice ≡ noticeBy c e) (λ s r. done-notice c e);
+      notice = when-done (ticksOf stepOf g es) c e (λ (s : Stepped). s .answer .notice ≡ noticeBy (c .running) e) (λ s r. done-notice c e);
       result = when-done (ticksOf stepOf g es) c e (λ (s : Stepped). s .answer .result ≡ resultBy c e) (λ s r. done-result c e);
     }

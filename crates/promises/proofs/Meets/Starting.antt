@@ -1,14 +1,15 @@
--- Ours meets the second demand on start, and the state of a run is always sound.
+-- Ours meets the second demand on Start and Restart, and the state of a run is always sound.
 use Prim.Native.Nat.{ℕ, _<_, _≤_}
-use borrow.Author.Tests.{eq-eqb, lt-ltb, ne-eqb}
+use borrow.Author.Tests.{eqb-true, lt-ltb, ne-eqb}
 use lib.ListN.{getD}
 use lib.Seq.{getD-set-same}
-use mathlib.Core.Bool.{true}
+use lib.Dec.{eqb}
+use mathlib.Core.Bool.{Bool, false, true}
 use mathlib.Core.List.{List, [], _∷_}
-use mathlib.Core.Path.{ap, refl, sym, _∙_, _≡_}
+use mathlib.Core.Path.{ap, refl, subst, sym, _∙_, _≡_}
 use native.Mathlib.Omega.{arith}
-use Rattle.basis.proofs.Laws.{false-true}
-use Rattle.basis.specs.Nobody.{nobody}
+use Rattle.basis.proofs.Laws.{both-left, both-right, false-true}
+use Rattle.basis.specs.Choice.{both}
 use Rattle.config.proofs.Legality.{legal-is}
 use Rattle.config.specs.Ranges.{Given}
 use Rattle.config.specs.Sizes.{entryAt}
@@ -20,17 +21,16 @@ use Rattle.core.specs.State.{freshCore, vmAt}
 use Rattle.core.specs.declared.Core.{Core}
 use Rattle.core.specs.declared.Stepped.{Stepped}
 use Rattle.core_laws.proofs.Always.{always-sound}
-use Rattle.core_laws.proofs.Facts.{sound-is}
-use Rattle.core_laws.proofs.Fresh.{fresh-sound}
-use Rattle.core_laws.proofs.Refused.{step-number}
-use Rattle.core_laws.proofs.View.{accepted-of, row-restart, row-start, start-row, step-case}
+use Rattle.core_laws.proofs.View.{row-restart, step-case}
 use Rattle.core_laws.specs.Run.{run}
-use Rattle.event.specs.declared.Event.the-variants.{Restart, Start}
+use Rattle.event.specs.declared.Event.the-variants.{Call, Extra, Fault, Restart, Shutdown, Start, Stop, Tick, Write}
 use Rattle.event.specs.declared.Event.{Event}
 use Rattle.guest.specs.Record.{fresh, startedAt}
 use Rattle.history.proofs.Steps.{Reached, ours-at}
 use Rattle.history.specs.History.{moment, momentOf, next, stateAfter, stateOf, ticksOf, went}
-use Rattle.promises.specs.Demands.{Starts, StaysSound}
+use Rattle.history.specs.Moments.{begins}
+use Rattle.promises.specs.Framing.{Starts, begunAt}
+use Rattle.promises.specs.Refusing.{StaysSound}
 use Rattle.vms.proofs.Laws.{each-at}
 
 pub state-run : (es : List Event) (c : Core) → stateAfter stepOf c es ≡ run c es
@@ -38,6 +38,7 @@ unfolding stateAfter run
 state-run [] c = refl
 state-run (e ∷ es) c = state-run es (stepOf c e .core)
 
+-- T6, W1 to W12
 pub ours-stays-sound : StaysSound stepOf
 ours-stays-sound g d es = ap sound (state-run es (freshCore g)) ∙ always-sound g (d .legal) (d .sized) es
 
@@ -67,20 +68,25 @@ module _ (g : Config) (d : Given g) (k : ℕ) (c : Core) (p : Reached g k c) whe
       getD-set-same (c .vms) v (startedAt (entryAt (c .config) v)) fresh (let q = p .shaped .records in let n = count-few in omega arith)
       ∙ ap (λ (x : Config). startedAt (entryAt x v)) (p .same)
 
-start-quiet : (c : Core) → sound c ≡ true → rowOf c Start ≡ 0 → done c Start .answer .running ≡ nobody
-unfolding done startCore
-start-quiet c s r = sound-is c s .unstarted (row-start c r) .2
+no-begin : {X : Type 0} (w : Bool) → both w false ≡ true → X
+no-begin true h = false-true h
+no-begin false h = false-true h
 
+-- D1, D18
 pub ours-starts : Starts stepOf
-unfolding stateAfter
-ours-starts g d =
-    record {
-      first = start-first;
-      ready = λ es w v h. when-done (ticksOf stepOf g es) (stateOf stepOf g es) Start (λ (s : Stepped). vmAt (s .core) v ≡ startedAt (entryAt g v)) (λ s r. start-ready g d _ _ (ours-at g d es) v h) w;
-      idle = λ es w. when-done (ticksOf stepOf g es) (stateOf stepOf g es) Start (λ (s : Stepped). s .answer .running ≡ nobody) (λ s r. start-quiet (stateOf stepOf g es) s r) w;
-      again = λ es v w. when-done (ticksOf stepOf g es) (stateOf stepOf g es) (Restart v) (λ (s : Stepped). vmAt (s .core) v ≡ startedAt (entryAt g v))
-          (λ s r. restart-ready g d _ _ (ours-at g d es) v (row-restart (stateOf stepOf g es) v r .1)) w;
-    }
-  where
-    start-first : went (next stepOf g [] Start) ≡ true
-    start-first = eq-eqb _ 0 (step-number (freshCore g) Start ∙ accepted-of (freshCore g) Start (fresh-sound g (d .legal)) (start-row (freshCore g) refl))
+unfolding begins
+ours-starts g d es Start v l h =
+    when-done (ticksOf stepOf g es) (stateOf stepOf g es) Start (λ (s : Stepped). vmAt (s .core) v ≡ begunAt (entryAt g v)) (λ s r. start-ready g d _ _ (ours-at g d es) v l)
+    (both-left (went (next stepOf g es Start)) true h)
+ours-starts g d es (Tick at) v l h = no-begin (went (next stepOf g es (Tick at))) h
+ours-starts g d es (Stop w) v l h = no-begin (went (next stepOf g es (Stop w))) h
+ours-starts g d es (Shutdown w) v l h = no-begin (went (next stepOf g es (Shutdown w))) h
+ours-starts g d es (Restart w) v l h =
+    let e : w ≡ v = eqb-true w v (both-right (went (next stepOf g es (Restart w))) (eqb w v) h) in
+    subst (λ (i : ℕ). vmAt (stepOf (stateOf stepOf g es) (Restart w) .core) i ≡ begunAt (entryAt g i)) e
+    (when-done (ticksOf stepOf g es) (stateOf stepOf g es) (Restart w) (λ (s : Stepped). vmAt (s .core) w ≡ begunAt (entryAt g w))
+    (λ s r. restart-ready g d _ _ (ours-at g d es) w (row-restart (stateOf stepOf g es) w r .1)) (both-left (went (next stepOf g es (Restart w))) (eqb w v) h))
+ours-starts g d es (Extra w) v l h = no-begin (went (next stepOf g es (Extra w))) h
+ours-starts g d es (Call i n at) v l h = no-begin (went (next stepOf g es (Call i n at))) h
+ours-starts g d es (Write o x) v l h = no-begin (went (next stepOf g es (Write o x))) h
+ours-starts g d es (Fault i x) v l h = no-begin (went (next stepOf g es (Fault i x))) h

@@ -1,0 +1,67 @@
+-- What follows from the rules for any behaviour that keeps them, beside the third demand.
+use Prim.Native.Nat.{ℕ, _%_, _<_, _^_}
+use borrow.Author.Tests.{eq-eqb}
+use mathlib.Core.Bool.{Bool, false, true}
+use mathlib.Core.List.{List, [], _++_, _∷_}
+use mathlib.Core.Path.{ap, refl, subst, sym, _∙_, _≡_}
+use Rattle.basis.specs.Choice.{both, pick}
+use Rattle.config.specs.Ranges.{Given}
+use Rattle.config.specs.declared.Config.{Config}
+use Rattle.core.specs.State.{freshCore, vmAt}
+use Rattle.core_laws.proofs.Facts.{sound-is}
+use Rattle.core_laws.proofs.Fresh.{fresh-sound}
+use Rattle.event.specs.declared.Event.the-variants.{Start, Write}
+use Rattle.event.specs.declared.Event.{Event}
+use Rattle.history.proofs.More.{told-more}
+use Rattle.history.specs.History.{Behaviour, Moment, history, next, sinceLast, stateAfter, stateOf, ticking, ticksOf, went}
+use Rattle.history.specs.Moments.{begins, ranIn, runs}
+use Rattle.promises.proofs.Only.Fits.{rules-fit}
+use Rattle.promises.specs.Demands.{Rules}
+use Rattle.promises.specs.Refusing.{Refuses, firstOf, linesOf}
+use Rattle.table.specs.Place.{Stands}
+use Rattle.table.specs.Position.{hasTicked}
+
+-- ---- D2: a fresh core takes its Start, and nothing runs before the first tick
+
+first-line : (g : Config) → Given g → firstOf (linesOf (freshCore g) Start) ≡ 0
+unfolding firstOf linesOf
+first-line g d = rw (fresh-sound g (d .legal))
+
+pub takes-start : (b : Behaviour) → Refuses b → (g : Config) → Given g → went (next b g [] Start) ≡ true
+unfolding stateAfter
+takes-start b r g d = eq-eqb (b (freshCore g) Start .answer .refusal) 0 (r (freshCore g) Start .number ∙ first-line g d)
+
+pub idle-at-first : (b : Behaviour) → Rules b → (g : Config) → Given g → (es : List Event) → ticksOf b g es ≡ 0 → stateOf b g es .running ≡ 255
+idle-at-first b r g d es z =
+    let h : hasTicked (stateOf b g es .clock) ≡ false = subst (λ (k : ℕ). Stands g k (stateOf b g es .clock)) z (r .table g d es .stands) in
+    sound-is (stateOf b g es) (r .stays-sound g d es) .first h
+
+-- ---- T4: a Write of any value at any offset moves neither count
+
+module _ (b : Behaviour) (r : Rules b) (g : Config) (d : Given g) (v : ℕ) (l : v < g .count) (es : List Event) (o x : ℕ) where
+  abbrev m : Moment
+  m = next b g es (Write o x)
+
+  still : (grows : Moment → Bool) → grows m ≡ false → sinceLast (begins v) grows 0 (history b g es ++ (m ∷ [])) ≡ sinceLast (begins v) grows 0 (history b g es)
+  unfolding begins
+  still grows h = told-more _ 0 (history b g es) m ∙ rw h (off (went m))
+    where
+      off : (w : Bool) → pick (both w false) 0 (sinceLast (begins v) grows 0 (history b g es)) ≡ sinceLast (begins v) grows 0 (history b g es)
+      off true = refl
+      off false = refl
+
+  off-tick : (w y : Bool) → both (both w false) y ≡ false
+  off-tick true y = refl
+  off-tick false y = refl
+
+  pub write-keeps-age : vmAt (m .after) v .age ≡ vmAt (stateOf b g es) v .age
+  write-keeps-age =
+      rules-fit b r g d es (Write o x) .clocks .age v l ∙ ap (λ (i : ℕ). i % 2 ^ 32) (still ticking (off (went m))) ∙ sym (r .clocks g d es .age v l)
+    where
+      off : (w : Bool) → both w false ≡ false
+      off true = refl
+      off false = refl
+
+  pub write-keeps-ran : vmAt (m .after) v .ran ≡ vmAt (stateOf b g es) v .ran
+  write-keeps-ran =
+      rules-fit b r g d es (Write o x) .clocks .ran v l ∙ ap (λ (i : ℕ). i % 2 ^ 32) (still (ranIn v) (off-tick (went m) (runs v m))) ∙ sym (r .clocks g d es .ran v l)
