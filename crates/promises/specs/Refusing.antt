@@ -10,7 +10,7 @@ use Rattle.core.specs.Sound.{sound}
 use Rattle.core.specs.State.{vmAt}
 use Rattle.core.specs.declared.Core.{Core}
 use Rattle.core.specs.declared.Stepped.{Stepped}
-use Rattle.event.specs.Kinds.{byteOf, isExtra, isFault, isStart, isWrite, ofMaster, ofRunning, subject, wantsReady}
+use Rattle.event.specs.declared.Event.the-variants.{Call, Extra, Fault, Restart, Shutdown, Start, Stop, Tick, Write}
 use Rattle.event.specs.declared.Event.{Event}
 use Rattle.history.specs.History.{AtEachState, Behaviour}
 
@@ -21,19 +21,33 @@ pub record Line : Type 0 where
 abbrev pub line : Bool → ℕ → Line
 line b n = record { applies = b; number = n }
 
--- R1, R4, from top to bottom
+abbrev pub notStarted : Core → Line
+notStarted c = line (not (eqb (c .clock .started) 1)) 2
+
+abbrev pub noSuchVm : Core → ℕ → Line
+noSuchVm c v = line (not (ltb v (c .config .count))) 3
+
+abbrev pub notReady : Core → ℕ → Line
+notReady c v = line (not (eqb (vmAt c v .standing) 1)) 4
+
+abbrev pub nobodyRuns : Core → Line
+nobodyRuns c = line (eqb (c .running) 255) 5
+
+-- R1, R4, R5: the lines of the table that speak of an event, from top to bottom
+abbrev pub linesBy : Core → Event → List Line
+linesBy c Start = line (eqb (c .clock .started) 1) 7 ∷ []
+linesBy c (Tick at) = notStarted c ∷ []
+linesBy c (Stop v) = notStarted c ∷ noSuchVm c v ∷ notReady c v ∷ []
+linesBy c (Shutdown v) = notStarted c ∷ noSuchVm c v ∷ notReady c v ∷ []
+linesBy c (Restart v) = notStarted c ∷ noSuchVm c v ∷ []
+linesBy c (Extra v) = notStarted c ∷ noSuchVm c v ∷ notReady c v ∷ line (leb (c .config .room) (c .queue .len)) 6 ∷ []
+linesBy c (Call s n at) = notStarted c ∷ nobodyRuns c ∷ []
+linesBy c (Write o x) = notStarted c ∷ nobodyRuns c ∷ line (not (both (eqb (o % 4) 0) (leb o 36))) 8 ∷ []
+linesBy c (Fault k d) = notStarted c ∷ nobodyRuns c ∷ line (not (both (leb 3 k) (leb k 5))) 9 ∷ []
+
+-- R1: of every event, first of all
 unfoldable pub linesOf : Core → Event → List Line
-linesOf c e =
-    line (not (sound c)) 1
-    ∷ line (both (isStart e) (eqb (c .clock .started) 1)) 7
-    ∷ line (both (not (isStart e)) (not (eqb (c .clock .started) 1))) 2
-    ∷ line (both (ofMaster e) (not (ltb (subject e) (c .config .count)))) 3
-    ∷ line (both (wantsReady e) (not (eqb (vmAt c (subject e) .standing) 1))) 4
-    ∷ line (both (isExtra e) (leb (c .config .room) (c .queue .len))) 6
-    ∷ line (both (ofRunning e) (eqb (c .running) 255)) 5
-    ∷ line (both (isWrite e) (not (both (eqb (byteOf e % 4) 0) (leb (byteOf e) 36)))) 8
-    ∷ line (both (isFault e) (not (both (leb 3 (byteOf e)) (leb (byteOf e) 5)))) 9
-    ∷ []
+linesOf c e = line (not (sound c)) 1 ∷ linesBy c e
 
 -- the number of the first line that applies, or 0
 unfoldable pub firstOf : List Line → ℕ

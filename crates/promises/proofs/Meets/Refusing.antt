@@ -10,18 +10,31 @@ use Rattle.core.specs.declared.Core.{Core}
 use Rattle.core.specs.declared.Stepped.{Stepped}
 use Rattle.core_laws.proofs.Refused.{step-number}
 use Rattle.core_laws.proofs.View.{step-refused}
+use Rattle.event.specs.declared.Event.the-variants.{Call, Extra, Fault, Restart, Shutdown, Start, Stop, Tick, Write}
 use Rattle.event.specs.declared.Event.{Event}
 use Rattle.guest.specs.Write.{isField}
-use Rattle.promises.specs.Refusing.{Refuses, firstOf, linesOf, saysNo}
+use Rattle.promises.specs.Refusing.{Refuses, firstOf, linesBy, linesOf, saysNo}
 
--- R1: the rows of the core's definition are the lines of the table
+-- R1, R5: the rows of the core's definition, asked of an event, are the lines of its own
+lines-rows : (c : Core) (e : Event) → firstOf (linesBy c e) ≡ rowOf c e
+unfolding firstOf rowOf isField
+lines-rows c Start = refl
+lines-rows c (Tick at) = refl
+lines-rows c (Stop v) = refl
+lines-rows c (Shutdown v) = refl
+lines-rows c (Restart v) = refl
+lines-rows c (Extra v) = refl
+lines-rows c (Call s n at) = refl
+lines-rows c (Write o x) = refl
+lines-rows c (Fault k d) = refl
+
 pub lines-first : (c : Core) (e : Event) → firstOf (linesOf c e) ≡ refusalOf c e
-unfolding firstOf linesOf refusalOf rowOf isField
-lines-first c e = go (sound c) (rowOf c e)
+unfolding firstOf linesOf refusalOf
+lines-first c e = rw (lines-rows c e) (go (sound c))
   where
-    go : (b : Bool) (n : ℕ) → pick (not b) 1 n ≡ pick b n 1
-    go true n = refl
-    go false n = refl
+    go : (b : Bool) → pick (not b) 1 (rowOf c e) ≡ pick b (rowOf c e) 1
+    go true = refl
+    go false = refl
 
 -- R1 to R4
 pub ours-refuses : Refuses stepOf
