@@ -1,4 +1,4 @@
--- Each worthless core, and each easy mistake, fails a demand that is named, by computation. And the promises are not empty.
+-- Each worthless core, and each easy mistake, fails a demand that is named; and the promises are not empty. Both by computation.
 use Prim.Native.Nat.{ℕ}
 use mathlib.Core.Bool.{true}
 use mathlib.Core.List.{List, [], _∷_}
@@ -22,10 +22,10 @@ use Rattle.guest.specs.Write.{isField, stored, write}
 use Rattle.guest.specs.declared.Found.the-variants.{At}
 use Rattle.guest.specs.declared.Status.{Status}
 use Rattle.guest.specs.declared.Vm.{Vm}
-use Rattle.history.specs.History.{after, countAfter, history, moments, next, stateAfter, times, told}
-use Rattle.history.specs.Moments.{asks, begins, handed, naming, ranIn, spare}
-use Rattle.history.specs.Queueing.{effect, entriesNot, marked, plain, removedIn, servedIn}
-use Rattle.history.specs.Telling.{ends, queueAfter, queueIn, standingAfter, startedAfter}
+use Rattle.history.specs.History.{countAfter, moments, stateAfter, times, told}
+use Rattle.history.specs.Moments.{asks, begins, naming}
+use Rattle.history.specs.Queueing.{effect, entriesNot, removedIn, servedIn}
+use Rattle.history.specs.Telling.{ends, queueAfter, standingAfter, startedAfter}
 use Rattle.promises.proofs.Due.{found-highest}
 use Rattle.promises.specs.Delivering.{Highest, Offer}
 use Rattle.promises.specs.Framing.{Enabled, OnTick, Previous, Reason, Restore, Resume}
@@ -34,6 +34,7 @@ use Rattle.queue.specs.Entries.{entriesOf, frontOf, others, paddedOf, pushed, r
 use Rattle.table.specs.Place.{tableTo}
 use Rattle.table.specs.Position.{nextClock}
 use Rattle.trials.specs.Examples.{example}
+use Rattle.trials.specs.Occurs.{NotEmpty}
 use Rattle.trials.specs.Refuted.{Refuted}
 use Rattle.trials.specs.Worthless.{deliverEmpty, deliverLow, lowest}
 use Rattle.vms.specs.Records.{each, restFresh}
@@ -55,86 +56,68 @@ begunOnce = Start ∷ Tick 0 ∷ []
 abbrev both37 : List Event
 both37 = Start ∷ Tick 0 ∷ Write 12 136 ∷ Write 8 136 ∷ []
 
--- C3, M1 to M6
-pub refuted : Refuted
+record Computed : Type 0 where
+  refutes : Refuted
+  occurs : NotEmpty
+
+computed : Computed
 unfolding stepOf refusalOf rowOf sound queuedReady noneReady standingsKnown done startCore tickClock tickTurn tickQueue calledFrom runningWithout refused innerOf legal durationsFit ownersFit vmsServed hasSlot vmsRest slotsRest every some upTo joined isField stored write due deliver enter shown highest setBit clearBit pend isFresh isBlank frontOf rest others pushed paddedOf nextClock each restFresh saving runnerOf entering turnBy passed turn moments stateAfter countAfter times told standingAfter startedAfter queueAfter ends tableTo naming asks begins entriesOf effect entriesNot servedIn removedIn firstOf linesOf deliverEmpty deliverLow lowest
-refuted =
+computed =
     record {
-      refuses-all = λ n k h. k (h (freshCore (example 1)) Start .number);
-      hands-back = λ h. (let z : _≡_ {A = ℕ} 0 1 = ap (λ (w : Vm). w .standing) (h (example 1) (given 1 refl) [] Start 0 (omega arith) refl) in omega arith);
-      idle = λ h. false-true (h (example 1) (given 1 refl) 0 (omega arith) (Start ∷ []) (Tick 0 ∷ []) .runs-named .0 refl refl);
-      repeats = λ h. (let z : _≡_ {A = ℕ} 0 1 = h (example 1) (given 1 refl) (Start ∷ Tick 0 ∷ Tick 0 ∷ []) .stands .place in omega arith);
-      makes-up = λ h. (let z : _≡_ {A = ℕ} 7 1 = h (example 1) (given 1 refl) (Start ∷ []) (Tick 0) 0 (omega arith) refl .ran in omega arith);
-      charges = λ h. (let z : _≡_ {A = ℕ} 1 0 = h (example 1) (given 1 refl) (Start ∷ Tick 0 ∷ Extra 0 ∷ Tick 0 ∷ Tick 0 ∷ Tick 0 ∷ Tick 0 ∷ []) .stands .place in omega arith);
-      charges-slices = λ h. false-true (h (example 1) (given 1 refl) 0 (omega arith) (Start ∷ Tick 0 ∷ Extra 0 ∷ Tick 0 ∷ Tick 0 ∷ Tick 0 ∷ Tick 0 ∷ []) (Tick 0 ∷ []) .runs-named .0 refl refl);
-      leaves = λ h. false-true (h (example 2) (given 2 refl) 0 (omega arith) (Start ∷ Extra 1 ∷ []) (Extra 0) (Stop 1 ∷ Tick 0 ∷ Tick 0 ∷ Tick 0 ∷ Tick 0 ∷ Tick 0 ∷ Tick 0 ∷ Tick 0 ∷ Tick 0 ∷ []) refl .served refl (omega arith));
-      leaves-queue = λ h. (let z : _≡_ {A = ℕ} 1 0 = ap (entriesOf 1) (h (example 2) (given 2 refl) (Start ∷ Extra 1 ∷ Stop 1 ∷ []) .queue) in omega arith);
-      newest = λ h. false-true (h (example 2) (given 2 refl) 1 (omega arith) (Start ∷ []) (Extra 1) (Extra 0 ∷ Tick 0 ∷ Tick 0 ∷ Tick 0 ∷ Tick 0 ∷ []) refl .served refl (omega arith));
-      forgets = λ h. (let z : _≡_ {A = ℕ} 0x1010 0x1020 = h (example 1) (given 1 refl) (Start ∷ Tick 0 ∷ Tick 0x1010 ∷ []) (Tick 0x1020) .accepted refl .addresses 0 (omega arith) (λ e. omega arith) in omega arith);
-      copy = λ h. (let z : _≡_ {A = ℕ} 101 2 = h (example 1) (given 1 refl) (Start ∷ Tick 0 ∷ Write 36 100 ∷ []) (Tick 0) 0 (omega arith) refl .ran in omega arith);
-      stop-moves = λ h. (let z : _≡_ {A = ℕ} 1 0 = h (example 1) (given 1 refl) (Start ∷ Tick 0 ∷ Stop 1 ∷ []) .stands .place in omega arith);
-      stop-moves-slices = λ h. false-true (h (example 1) (given 1 refl) 0 (omega arith) (Start ∷ Tick 0 ∷ Stop 1 ∷ []) (Tick 0 ∷ []) .runs-named .0 refl refl);
-      empties = λ h. (let z : _≡_ {A = ℕ} 0 8 = h (example 1) (given 1 refl) both37 (Call 0 0 0x1010) .accepted refl .sync refl .given 7 (highest-is _ 136 136 7 refl refl refl) .1 .pending in omega arith);
-      lowest = λ h. (let z : _≡_ {A = ℕ} 3 7 = h (example 1) (given 1 refl) both37 (Call 0 0 0x1010) .accepted refl .sync refl .given 7 (highest-is _ 136 136 7 refl refl refl) .0 in omega arith);
-      lowest-tick = λ h. (let z : _≡_ {A = ℕ} 3 7 = h (example 1) (given 1 refl) both37 (Tick 0x1010) .accepted refl .to-runner 0 (omega arith) refl .given 7 (highest-is _ 136 136 7 refl refl refl) .0 in omega arith);
-      waits = λ h. (let z : _≡_ {A = ℕ} 255 3 = h (example 1) (given 1 refl) (Start ∷ Tick 0 ∷ Write 8 8 ∷ []) (Call 2 3 0x1030) .accepted refl .inject refl (omega arith) .given 3 (highest-is _ 8 8 3 refl refl refl) .0 in omega arith);
-      own = λ h. (let z : _≡_ {A = ℕ} 3 7 = h (example 1) (given 1 refl) (Start ∷ Tick 0 ∷ Write 12 128 ∷ Write 8 136 ∷ []) (Call 2 3 0x1030) .accepted refl .inject refl (omega arith) .given 7 (highest-is _ 136 136 7 refl refl refl) .0 in omega arith);
-      at-once = λ h. (let z : _≡_ {A = ℕ} 11 255 = h (example 1) (given 1 refl) (Start ∷ Tick 0 ∷ Write 8 2048 ∷ []) (Shutdown 0) .accepted refl .never in omega arith);
-      tells-all = λ h. (let z : _≡_ {A = ℕ} 1 2 = h (example 2) (given 2 refl) 0 (omega arith) (Start ∷ Extra 0 ∷ Extra 1 ∷ Stop 0 ∷ []) in omega arith);
-      tells-none = λ h. (let z : _≡_ {A = ℕ} 1 0 = h (example 2) (given 2 refl) 0 (omega arith) (Start ∷ Extra 0 ∷ Stop 0 ∷ []) in omega arith);
-      silent = λ h. (let z : _≡_ {A = ℕ} 1 0 = h (example 2) (given 2 refl) 0 (omega arith) (Start ∷ Extra 0 ∷ Restart 0 ∷ []) in omega arith);
-      served = λ h. (let z : _≡_ {A = ℕ} 1 0 = h (example 1) (given 1 refl) (Start ∷ Extra 0 ∷ Tick 0 ∷ Tick 0 ∷ Tick 0 ∷ []) (Tick 0) .count in omega arith);
-      unused = λ h. (let z : _≡_ {A = ℕ} 2 1 = h (example 1) (given 1 refl) begunOnce .standing 1 (omega arith) in omega arith);
-      stop-errs = λ h. (let z : _≡_ {A = ℕ} 4 2 = h (example 1) (given 1 refl) (Start ∷ Stop 0 ∷ []) .standing 0 (omega arith) in omega arith);
-      fault-stops = λ h. (let z : _≡_ {A = ℕ} 2 4 = h (example 1) (given 1 refl) (Start ∷ Tick 0 ∷ Fault 3 0 ∷ []) .standing 0 (omega arith) in omega arith);
-      stays-ready = λ h. (let z : _≡_ {A = ℕ} 1 2 = h (example 0) (given 0 refl) (Start ∷ Stop 0 ∷ []) .standing 0 (omega arith) in omega arith);
-      begins-anew = λ h. (let z : _≡_ {A = ℕ} 0 1 = h (example 1) (given 1 refl) (Start ∷ Stop 0 ∷ Stop 1 ∷ []) .started in omega arith);
-      yields = λ h. (let z : _≡_ {A = ℕ} 255 0 = h (example 1) (given 1 refl) begunOnce (Call 0 0 0x1010) .other refl refl in omega arith);
-      restart-runs = λ h. (let z : _≡_ {A = ℕ} 0 255 = h (example 1) (given 1 refl) (Start ∷ Tick 0 ∷ Stop 0 ∷ []) (Restart 0) .other refl refl in omega arith);
-      hands-on = λ h. (let z : _≡_ {A = ℕ} 1 255 = h (example 1) (given 1 refl) (Start ∷ Extra 0 ∷ Tick 0 ∷ Tick 0 ∷ Tick 0 ∷ Tick 0 ∷ []) (Stop 0) .other refl refl in omega arith);
-      ignores = λ h. (let z : _≡_ {A = ℕ} 0 5 = h (example 1) (given 1 refl) begunOnce (Write 8 5) 8 5 refl refl Enabled refl in omega arith);
-      writes-all = λ h. (let z : _≡_ {A = ℕ} 5 0 = h (example 1) (given 1 refl) begunOnce (Write 8 5) .fields refl 1 (omega arith) Enabled refl in omega arith);
-      stop-wipes = λ h. (let z : _≡_ {A = ℕ} 0 0x1000 = h (example 1) (given 1 refl) (Start ∷ []) (Stop 0) .address refl 0 (omega arith) refl in omega arith);
-      fault-wipes = λ h. (let z : _≡_ {A = ℕ} 0 0x1000 = h (example 1) (given 1 refl) begunOnce (Fault 3 0) .address refl 0 (omega arith) refl in omega arith);
-      extra-resets = λ h. (let z : _≡_ {A = ℕ} 0 0x1000 = h (example 1) (given 1 refl) (Start ∷ []) (Extra 0) .address refl 0 (omega arith) refl in omega arith);
-      uses-up = λ h. (let z : _≡_ {A = ℕ} 0 5 = h (example 1) (given 1 refl) (Start ∷ Tick 0 ∷ Write 32 5 ∷ []) (Tick 0) .fields refl 0 (omega arith) OnTick refl in omega arith);
-      loses-restore = λ h. (let z : _≡_ {A = ℕ} 0 5 = h (example 1) (given 1 refl) (Start ∷ Tick 0 ∷ Write 28 5 ∷ []) (Tick 0) .fields refl 0 (omega arith) Restore refl in omega arith);
-      moves-reason = λ h. (let z : _≡_ {A = ℕ} 9 0 = h (example 1) (given 1 refl) (Start ∷ []) (Extra 0) .fields refl 0 (omega arith) Reason refl in omega arith);
-      moves-previous = λ h. (let z : _≡_ {A = ℕ} 9 0 = h (example 1) (given 1 refl) (Start ∷ []) (Extra 0) .fields refl 0 (omega arith) Previous refl in omega arith);
-      moves-resume = λ h. (let z : _≡_ {A = ℕ} 9 0 = h (example 1) (given 1 refl) (Start ∷ []) (Extra 0) .fields refl 0 (omega arith) Resume refl in omega arith);
-      strays = λ h. (let z : _≡_ {A = ℕ} 5 0 = h (example 1) (given 1 refl) (Start ∷ []) .unentered refl .0 in omega arith);
-      ninth = λ h. (let z : _≡_ {A = ℕ} 9 8 = h (example 1) (given 1 refl) (Start ∷ []) .records in omega arith);
-      longer = λ h. (let z : _≡_ {A = ℕ} 17 16 = h (example 1) (given 1 refl) (Start ∷ []) .places in omega arith);
+      refutes = record {
+        refuses-all = λ n k h. k (h (freshCore (example 1)) Start .number);
+        hands-back = λ h. (let z : _≡_ {A = ℕ} 0 1 = ap (λ (w : Vm). w .standing) (h (example 1) (given 1 refl) [] Start 0 (omega arith) refl) in omega arith);
+        idle = λ h. false-true (h (example 1) (given 1 refl) 0 (omega arith) (Start ∷ []) (Tick 0 ∷ []) .runs-named .0 refl refl);
+        repeats = λ h. (let z : _≡_ {A = ℕ} 0 1 = h (example 1) (given 1 refl) (Start ∷ Tick 0 ∷ Tick 0 ∷ []) .stands .place in omega arith);
+        makes-up = λ h. (let z : _≡_ {A = ℕ} 7 1 = h (example 1) (given 1 refl) (Start ∷ []) (Tick 0) 0 (omega arith) refl .ran in omega arith);
+        charges = λ h. (let z : _≡_ {A = ℕ} 1 0 = h (example 1) (given 1 refl) (Start ∷ Tick 0 ∷ Extra 0 ∷ Tick 0 ∷ Tick 0 ∷ Tick 0 ∷ Tick 0 ∷ []) .stands .place in omega arith);
+        charges-slices = λ h. false-true (h (example 1) (given 1 refl) 0 (omega arith) (Start ∷ Tick 0 ∷ Extra 0 ∷ Tick 0 ∷ Tick 0 ∷ Tick 0 ∷ Tick 0 ∷ []) (Tick 0 ∷ []) .runs-named .0 refl refl);
+        leaves = λ h. false-true (h (example 2) (given 2 refl) 0 (omega arith) (Start ∷ Extra 1 ∷ []) (Extra 0) (Stop 1 ∷ Tick 0 ∷ Tick 0 ∷ Tick 0 ∷ Tick 0 ∷ Tick 0 ∷ Tick 0 ∷ Tick 0 ∷ Tick 0 ∷ []) refl .served refl (omega arith));
+        leaves-queue = λ h. (let z : _≡_ {A = ℕ} 1 0 = ap (entriesOf 1) (h (example 2) (given 2 refl) (Start ∷ Extra 1 ∷ Stop 1 ∷ []) .queue) in omega arith);
+        newest = λ h. false-true (h (example 2) (given 2 refl) 1 (omega arith) (Start ∷ []) (Extra 1) (Extra 0 ∷ Tick 0 ∷ Tick 0 ∷ Tick 0 ∷ Tick 0 ∷ []) refl .served refl (omega arith));
+        forgets = λ h. (let z : _≡_ {A = ℕ} 0x1010 0x1020 = h (example 1) (given 1 refl) (Start ∷ Tick 0 ∷ Tick 0x1010 ∷ []) (Tick 0x1020) .accepted refl .addresses 0 (omega arith) (λ e. omega arith) in omega arith);
+        copy = λ h. (let z : _≡_ {A = ℕ} 101 2 = h (example 1) (given 1 refl) (Start ∷ Tick 0 ∷ Write 36 100 ∷ []) (Tick 0) 0 (omega arith) refl .ran in omega arith);
+        stop-moves = λ h. (let z : _≡_ {A = ℕ} 1 0 = h (example 1) (given 1 refl) (Start ∷ Tick 0 ∷ Stop 1 ∷ []) .stands .place in omega arith);
+        stop-moves-slices = λ h. false-true (h (example 1) (given 1 refl) 0 (omega arith) (Start ∷ Tick 0 ∷ Stop 1 ∷ []) (Tick 0 ∷ []) .runs-named .0 refl refl);
+        empties = λ h. (let z : _≡_ {A = ℕ} 0 8 = h (example 1) (given 1 refl) both37 (Call 0 0 0x1010) .accepted refl .sync refl .given 7 (highest-is _ 136 136 7 refl refl refl) .1 .pending in omega arith);
+        lowest = λ h. (let z : _≡_ {A = ℕ} 3 7 = h (example 1) (given 1 refl) both37 (Call 0 0 0x1010) .accepted refl .sync refl .given 7 (highest-is _ 136 136 7 refl refl refl) .0 in omega arith);
+        lowest-tick = λ h. (let z : _≡_ {A = ℕ} 3 7 = h (example 1) (given 1 refl) both37 (Tick 0x1010) .accepted refl .to-runner 0 (omega arith) refl .given 7 (highest-is _ 136 136 7 refl refl refl) .0 in omega arith);
+        waits = λ h. (let z : _≡_ {A = ℕ} 255 3 = h (example 1) (given 1 refl) (Start ∷ Tick 0 ∷ Write 8 8 ∷ []) (Call 2 3 0x1030) .accepted refl .inject refl (omega arith) .given 3 (highest-is _ 8 8 3 refl refl refl) .0 in omega arith);
+        own = λ h. (let z : _≡_ {A = ℕ} 3 7 = h (example 1) (given 1 refl) (Start ∷ Tick 0 ∷ Write 12 128 ∷ Write 8 136 ∷ []) (Call 2 3 0x1030) .accepted refl .inject refl (omega arith) .given 7 (highest-is _ 136 136 7 refl refl refl) .0 in omega arith);
+        at-once = λ h. (let z : _≡_ {A = ℕ} 11 255 = h (example 1) (given 1 refl) (Start ∷ Tick 0 ∷ Write 8 2048 ∷ []) (Shutdown 0) .accepted refl .never in omega arith);
+        tells-all = λ h. (let z : _≡_ {A = ℕ} 1 2 = h (example 2) (given 2 refl) 0 (omega arith) (Start ∷ Extra 0 ∷ Extra 1 ∷ Stop 0 ∷ []) in omega arith);
+        tells-none = λ h. (let z : _≡_ {A = ℕ} 1 0 = h (example 2) (given 2 refl) 0 (omega arith) (Start ∷ Extra 0 ∷ Stop 0 ∷ []) in omega arith);
+        silent = λ h. (let z : _≡_ {A = ℕ} 1 0 = h (example 2) (given 2 refl) 0 (omega arith) (Start ∷ Extra 0 ∷ Restart 0 ∷ []) in omega arith);
+        served = λ h. (let z : _≡_ {A = ℕ} 1 0 = h (example 1) (given 1 refl) (Start ∷ Extra 0 ∷ Tick 0 ∷ Tick 0 ∷ Tick 0 ∷ []) (Tick 0) .count in omega arith);
+        unused = λ h. (let z : _≡_ {A = ℕ} 2 1 = h (example 1) (given 1 refl) begunOnce .standing 1 (omega arith) in omega arith);
+        stop-errs = λ h. (let z : _≡_ {A = ℕ} 4 2 = h (example 1) (given 1 refl) (Start ∷ Stop 0 ∷ []) .standing 0 (omega arith) in omega arith);
+        fault-stops = λ h. (let z : _≡_ {A = ℕ} 2 4 = h (example 1) (given 1 refl) (Start ∷ Tick 0 ∷ Fault 3 0 ∷ []) .standing 0 (omega arith) in omega arith);
+        stays-ready = λ h. (let z : _≡_ {A = ℕ} 1 2 = h (example 0) (given 0 refl) (Start ∷ Stop 0 ∷ []) .standing 0 (omega arith) in omega arith);
+        begins-anew = λ h. (let z : _≡_ {A = ℕ} 0 1 = h (example 1) (given 1 refl) (Start ∷ Stop 0 ∷ Stop 1 ∷ []) .started in omega arith);
+        yields = λ h. (let z : _≡_ {A = ℕ} 255 0 = h (example 1) (given 1 refl) begunOnce (Call 0 0 0x1010) .other refl refl in omega arith);
+        restart-runs = λ h. (let z : _≡_ {A = ℕ} 0 255 = h (example 1) (given 1 refl) (Start ∷ Tick 0 ∷ Stop 0 ∷ []) (Restart 0) .other refl refl in omega arith);
+        hands-on = λ h. (let z : _≡_ {A = ℕ} 1 255 = h (example 1) (given 1 refl) (Start ∷ Extra 0 ∷ Tick 0 ∷ Tick 0 ∷ Tick 0 ∷ Tick 0 ∷ []) (Stop 0) .other refl refl in omega arith);
+        ignores = λ h. (let z : _≡_ {A = ℕ} 0 5 = h (example 1) (given 1 refl) begunOnce (Write 8 5) 8 5 refl refl Enabled refl in omega arith);
+        writes-all = λ h. (let z : _≡_ {A = ℕ} 5 0 = h (example 1) (given 1 refl) begunOnce (Write 8 5) .fields refl 1 (omega arith) Enabled refl in omega arith);
+        stop-wipes = λ h. (let z : _≡_ {A = ℕ} 0 0x1000 = h (example 1) (given 1 refl) (Start ∷ []) (Stop 0) .address refl 0 (omega arith) refl in omega arith);
+        fault-wipes = λ h. (let z : _≡_ {A = ℕ} 0 0x1000 = h (example 1) (given 1 refl) begunOnce (Fault 3 0) .address refl 0 (omega arith) refl in omega arith);
+        extra-resets = λ h. (let z : _≡_ {A = ℕ} 0 0x1000 = h (example 1) (given 1 refl) (Start ∷ []) (Extra 0) .address refl 0 (omega arith) refl in omega arith);
+        uses-up = λ h. (let z : _≡_ {A = ℕ} 0 5 = h (example 1) (given 1 refl) (Start ∷ Tick 0 ∷ Write 32 5 ∷ []) (Tick 0) .fields refl 0 (omega arith) OnTick refl in omega arith);
+        loses-restore = λ h. (let z : _≡_ {A = ℕ} 0 5 = h (example 1) (given 1 refl) (Start ∷ Tick 0 ∷ Write 28 5 ∷ []) (Tick 0) .fields refl 0 (omega arith) Restore refl in omega arith);
+        moves-reason = λ h. (let z : _≡_ {A = ℕ} 9 0 = h (example 1) (given 1 refl) (Start ∷ []) (Extra 0) .fields refl 0 (omega arith) Reason refl in omega arith);
+        moves-previous = λ h. (let z : _≡_ {A = ℕ} 9 0 = h (example 1) (given 1 refl) (Start ∷ []) (Extra 0) .fields refl 0 (omega arith) Previous refl in omega arith);
+        moves-resume = λ h. (let z : _≡_ {A = ℕ} 9 0 = h (example 1) (given 1 refl) (Start ∷ []) (Extra 0) .fields refl 0 (omega arith) Resume refl in omega arith);
+        strays = λ h. (let z : _≡_ {A = ℕ} 5 0 = h (example 1) (given 1 refl) (Start ∷ []) .unentered refl .0 in omega arith);
+        ninth = λ h. (let z : _≡_ {A = ℕ} 9 8 = h (example 1) (given 1 refl) (Start ∷ []) .records in omega arith);
+        longer = λ h. (let z : _≡_ {A = ℕ} 17 16 = h (example 1) (given 1 refl) (Start ∷ []) .places in omega arith);
+      };
+      occurs = record { asked = refl; goes-on = refl; spares = refl; named = refl; handed-one = refl; ran = refl; served = refl; requests = refl; granted = refl; removed = refl; standing = refl };
     }
 
--- ---- the promises are not empty: one run of ours in which their premises hold
+-- C3, M1 to M6
+pub refuted : Refuted
+refuted = computed .refutes
 
-abbrev begun : List Event
-begun = Start ∷ Extra 1 ∷ []
-
-abbrev ticks8 : List Event
-ticks8 = Tick 0 ∷ Tick 0 ∷ Tick 0 ∷ Write 36 5 ∷ Tick 0 ∷ Tick 0 ∷ Shutdown 1 ∷ Tick 0 ∷ Tick 0 ∷ Tick 0 ∷ []
-
--- in eight ticks after two requests, of 1 and then of 0: nothing ends VM 0, two ticks are spare, VM 0 has four of its own and one handed to it, and its request is served
-pub not-empty :
-    (asks 0 (next stepOf (example 2) begun (Extra 0)) ≡ true)
-    × (times (ends 0) (after stepOf (next stepOf (example 2) begun (Extra 0)) ticks8) ≡ 0)
-    × (times (spare (example 2)) (after stepOf (next stepOf (example 2) begun (Extra 0)) ticks8) ≡ 2)
-    × (times (naming (example 2) 0) (after stepOf (next stepOf (example 2) begun (Extra 0)) ticks8) ≡ 4)
-    × (times (handed (example 2) 0) (after stepOf (next stepOf (example 2) begun (Extra 0)) ticks8) ≡ 1)
-    × (times (ranIn 0) (after stepOf (next stepOf (example 2) begun (Extra 0)) ticks8) ≡ 5)
-    × (servedIn (example 2) 0 (plain 1 ∷ marked 0 ∷ []) (after stepOf (next stepOf (example 2) begun (Extra 0)) ticks8) ≡ true)
-unfolding stepOf refusalOf rowOf sound queuedReady noneReady standingsKnown done startCore tickClock tickTurn tickQueue calledFrom runningWithout refused innerOf legal durationsFit ownersFit vmsServed hasSlot vmsRest slotsRest every some upTo joined isField stored write due deliver enter shown highest setBit clearBit pend isFresh isBlank frontOf rest others pushed paddedOf nextClock each restFresh saving runnerOf entering turnBy passed turn moments stateAfter countAfter times told standingAfter startedAfter queueAfter ends tableTo naming asks begins entriesOf effect entriesNot servedIn removedIn firstOf linesOf deliverEmpty deliverLow lowest
-not-empty = (refl, refl, refl, refl, refl, refl, refl)
-
-abbrev mixed : List Event
-mixed = Start ∷ Extra 0 ∷ Extra 1 ∷ Extra 0 ∷ Extra 0 ∷ Tick 0 ∷ Tick 0 ∷ Tick 0 ∷ Tick 0 ∷ Stop 1 ∷ Restart 0 ∷ Extra 0 ∷ []
-
--- of four requests of VM 0 one is served, two are removed, and one still stands
-pub accounts-not-empty :
-    (times (asks 0) (history stepOf (example 4) mixed) ≡ 4)
-    × (times (handed (example 4) 0) (history stepOf (example 4) mixed) ≡ 1)
-    × (removedIn (example 4) 0 (history stepOf (example 4) mixed) ≡ 2)
-    × (entriesOf 0 (queueIn (example 4) (history stepOf (example 4) mixed)) ≡ 1)
-unfolding stepOf refusalOf rowOf sound queuedReady noneReady standingsKnown done startCore tickClock tickTurn tickQueue calledFrom runningWithout refused innerOf legal durationsFit ownersFit vmsServed hasSlot vmsRest slotsRest every some upTo joined isField stored write due deliver enter shown highest setBit clearBit pend isFresh isBlank frontOf rest others pushed paddedOf nextClock each restFresh saving runnerOf entering turnBy passed turn moments stateAfter countAfter times told standingAfter startedAfter queueAfter ends tableTo naming asks begins entriesOf effect entriesNot servedIn removedIn firstOf linesOf deliverEmpty deliverLow lowest
-accounts-not-empty = (refl, refl, refl, refl)
+-- C9
+pub not-empty : NotEmpty
+not-empty = computed .occurs

@@ -2,5 +2,6 @@ pub mod Examples
 pub mod Worthless
 pub mod Spoilt
 pub mod Refuted
+pub mod Occurs
 pub mod Broken
 pub mod Vectors
