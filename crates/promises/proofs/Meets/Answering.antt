@@ -34,29 +34,18 @@ call-result c s n at =
     (λ h. rw h) (λ h. rw h) (λ h i. rw h) (λ h i. rw h) (λ h. rw h) (λ h i. rw (h, i)) (λ h i. rw (h, i))
     (λ h. rw (ne-eqb s 4 (λ e. omega arith)))
 
-done-notice : (c : Core) (e : Event) → done c e .answer .notice ≡ noticeBy (c .running) e
+-- the notice and the result of an event that is done
+done-told : (c : Core) (e : Event) → (done c e .answer .notice ≡ noticeBy (c .running) e) × (done c e .answer .result ≡ resultBy c e)
 unfolding done
-done-notice c Start = refl
-done-notice c (Tick at) = refl
-done-notice c (Stop v) = refl
-done-notice c (Shutdown v) = refl
-done-notice c (Restart v) = refl
-done-notice c (Extra v) = refl
-done-notice c (Call s n at) = call-notice c s n at
-done-notice c (Write o x) = refl
-done-notice c (Fault k d) = refl
-
-done-result : (c : Core) (e : Event) → done c e .answer .result ≡ resultBy c e
-unfolding done
-done-result c Start = refl
-done-result c (Tick at) = refl
-done-result c (Stop v) = refl
-done-result c (Shutdown v) = refl
-done-result c (Restart v) = refl
-done-result c (Extra v) = refl
-done-result c (Call s n at) = call-result c s n at
-done-result c (Write o x) = refl
-done-result c (Fault k d) = refl
+done-told c Start = (refl, refl)
+done-told c (Tick at) = (refl, refl)
+done-told c (Stop v) = (refl, refl)
+done-told c (Shutdown v) = (refl, refl)
+done-told c (Restart v) = (refl, refl)
+done-told c (Extra v) = (refl, refl)
+done-told c (Call s n at) = (call-notice c s n at, call-result c s n at)
+done-told c (Write o x) = (refl, refl)
+done-told c (Fault k d) = (refl, refl)
 
 -- A1, A2, A4 to A7
 pub ours-tells : Tells stepOf
@@ -66,6 +55,6 @@ ours-tells g d es e =
     record {
       running = t .0;
       address = t .1;
-      notice = when-done (ticksOf stepOf g es) c e (λ (s : Stepped). s .answer .notice ≡ noticeBy (c .running) e) (λ s r. done-notice c e);
-      result = when-done (ticksOf stepOf g es) c e (λ (s : Stepped). s .answer .result ≡ resultBy c e) (λ s r. done-result c e);
+      notice = when-done (ticksOf stepOf g es) c e (λ (s : Stepped). s .answer .notice ≡ noticeBy (c .running) e) (λ s r. done-told c e .0);
+      result = when-done (ticksOf stepOf g es) c e (λ (s : Stepped). s .answer .result ≡ resultBy c e) (λ s r. done-told c e .1);
     }
