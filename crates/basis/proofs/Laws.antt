@@ -9,7 +9,7 @@ use mathlib.Core.Bool.{Bool, false, true}
 use mathlib.Core.List.{List, map}
 use mathlib.Core.Logic.{inl, inr, _⊎_, ⊎-elim}
 use mathlib.Core.Path.{refl, sym, _∙_, _≡_}
-use native.Mathlib.Decide.{decLt}
+use native.Mathlib.Decide.{decLt, ℕ-discrete}
 use native.Mathlib.Numerals.{add-one}
 use native.Mathlib.Omega.{arith}
 use Rattle.basis.specs.Choice.{both, either, pick}
@@ -61,6 +61,33 @@ both-of false b x y = false-true x
 pub both-assoc : (a b c : Bool) → both (both a b) c ≡ both a (both b c)
 both-assoc true b c = refl
 both-assoc false b c = refl
+
+pub eqb-same : (n : ℕ) → eqb n n ≡ true
+eqb-same n = eq-eqb n n refl
+
+pub eqb-swap : (a b : ℕ) → eqb a b ≡ eqb b a
+eqb-swap a b =
+    elim (ℕ-discrete a b) [
+      | yes e ↦ eq-eqb a b e ∙ sym (eq-eqb b a (sym e))
+      | no e ↦ ne-eqb a b e ∙ sym (ne-eqb b a (λ z. e (sym z)))
+    ]
+
+-- a second test that is known
+pub both-yes : (b : Bool) → both b true ≡ b
+both-yes true = refl
+both-yes false = refl
+
+pub both-no : (b : Bool) → both b false ≡ false
+both-no true = refl
+both-no false = refl
+
+pub either-yes : (b : Bool) → either b true ≡ true
+either-yes true = refl
+either-yes false = refl
+
+pub either-no : (b : Bool) → either b false ≡ b
+either-no true = refl
+either-no false = refl
 
 pub either-is : (a b : Bool) → either a b ≡ true → (a ≡ true) ⊎ (b ≡ true)
 either-is true b e = inl refl

@@ -8,7 +8,7 @@ use mathlib.Core.List.{List}
 use mathlib.Core.Path.{ap, refl, sym, _∙_, _≡_}
 use native.Mathlib.Decide.{decLt}
 use native.Mathlib.Omega.{arith}
-use Rattle.basis.proofs.Laws.{both-assoc, every-same}
+use Rattle.basis.proofs.Laws.{both-assoc, both-no, both-yes, every-same}
 use Rattle.basis.specs.Choice.{both, either}
 use Rattle.basis.specs.Count.{every}
 use Rattle.basis.specs.Nobody.{nobody}
@@ -59,19 +59,11 @@ standing-is l i = List·getD-map (λ (v : Vm). v .standing) l i fresh
 regroup : (r a b c d e f g h i k : Bool) → both r (both (both a (both b c)) (both (both d e) (both (both f g) (both (both h i) k)))) ≡ both r (both a (both b (both c (both d (both e (both f (both g (both h (both i k)))))))))
 regroup r a b c d e f g h i k = simp both-assoc
 
-both-end : (b : Bool) → both b true ≡ b
-both-end true = refl
-both-end false = refl
-
-both-none : (b : Bool) → both b false ≡ false
-both-none true = refl
-both-none false = refl
-
 -- where the queue's size is legal, that it has 16 places says nothing
 queue-16 : (len room : ℕ) (x : Bool) → room ≤ 16 → both (leb len 16) (both (leb len room) x) ≡ both (leb len room) x
 queue-16 len room x h =
     elim (decLt room len) [
-      | yes l ↦ rw (lt-leb len room l) (both-none (leb len 16))
+      | yes l ↦ rw (lt-leb len room l) (both-no (leb len 16))
       | no l ↦ rw (le-leb len room (omega arith), le-leb len 16 (omega arith))
     ]
 
@@ -106,8 +98,8 @@ module _ (g : Config) (clock : Clock) (running : ℕ) (queue : Queue) (vms : Lis
 
     parts-law : (t : Bool) → t ≡ legal g → both a t ≡ soundFrom g clock running queue vms
     unfolding soundFrom
-    parts-law true e = both-end a ∙ joined-law (sym e)
-    parts-law false e = both-none a ∙ rw (← e)
+    parts-law true e = both-yes a ∙ joined-law (sym e)
+    parts-law false e = both-no a ∙ rw (← e)
 
     pub parts-yes : (t : Bool) → a ≡ true → t ≡ legal g → t ≡ soundFrom g clock running queue vms
     parts-yes t y e = rw y at (parts-law t e)

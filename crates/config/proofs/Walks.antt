@@ -13,7 +13,7 @@ use native.Mathlib.Decide.{decLt}
 use native.Mathlib.Nat.{mod-eq-of-lt, mod-lt}
 use native.Mathlib.Omega.{arith}
 use Rattle.basis.proofs.Bits.{bit-or, bit-zero, low-full, power-bit}
-use Rattle.basis.proofs.Laws.{both-left, both-of, both-right, either-is, every-below, every-is, every-of, every-same, false-true, fault-more, some-below, some-is, some-more, some-of}
+use Rattle.basis.proofs.Laws.{both-left, both-no, both-of, both-right, both-yes, either-is, either-no, every-below, every-is, every-of, every-same, false-true, fault-more, some-below, some-is, some-more, some-of}
 use Rattle.basis.specs.Bits.{bit}
 use Rattle.basis.specs.Choice.{both, either, pick}
 use Rattle.basis.specs.Count.{every, some}
@@ -146,18 +146,6 @@ picked v x false = bit-zero v
 
 joined-four : (v a b c d : ℕ) → bit v (bitOr (bitOr (bitOr a b) c) d) ≡ either (either (either (bit v a) (bit v b)) (bit v c)) (bit v d)
 joined-four v a b c d = rw (bit-or v (bitOr (bitOr a b) c) d, bit-or v (bitOr a b) c, bit-or v a b)
-
-both-no : (t : Bool) → both t false ≡ false
-both-no true = refl
-both-no false = refl
-
-both-yes : (t : Bool) → both t true ≡ t
-both-yes true = refl
-both-yes false = refl
-
-either-no : (t : Bool) → either t false ≡ t
-either-no true = refl
-either-no false = refl
 
 -- of four bits, each where its test holds, bit v is the v-th test
 four : (p : ℕ → Bool) (v : ℕ) → v < 4 → either (either (either (both (p 0) (bit v 1)) (both (p 1) (bit v 2))) (both (p 2) (bit v 4))) (both (p 3) (bit v 8)) ≡ p v

@@ -8,29 +8,22 @@ use mathlib.Core.Path.{ap, refl, sym, _∙_, _≡_}
 use native.Mathlib.Nat.{div-eq-sub-div}
 use native.Mathlib.Omega.{arith}
 use Rattle.basis.proofs.Bits.{bit-or, power-other, power-same}
+use Rattle.basis.proofs.Laws.{either-no, either-yes}
 use Rattle.basis.specs.Bits.{bit}
 use Rattle.basis.specs.Choice.{either, pick}
 use Rattle.guest.proofs.Laws.{and-in, or-sets}
 use Rattle.guest.specs.Bits.{clearBit, setBit}
-
-either-false : (b : Bool) → either b false ≡ b
-either-false true = refl
-either-false false = refl
-
-either-true : (b : Bool) → either b true ≡ true
-either-true true = refl
-either-true false = refl
 
 set-or : (k n x : ℕ) → bit k (setBit n x) ≡ either (bit k x) (bit k (2 ^ n))
 set-or k n x = ap (bit k) (sym (or-sets n x (2 ^ n) refl)) ∙ bit-or k x (2 ^ n)
 
 -- D17, D27: the number that is set is in it
 pub set-same : (n x : ℕ) → bit n (setBit n x) ≡ true
-set-same n x = set-or n n x ∙ ap (either (bit n x)) (power-same n) ∙ either-true (bit n x)
+set-same n x = set-or n n x ∙ ap (either (bit n x)) (power-same n) ∙ either-yes (bit n x)
 
 -- .. and the others are as they were
 pub set-other : (k n x : ℕ) → (k ≡ n → ⊥) → bit k (setBit n x) ≡ bit k x
-set-other k n x h = set-or k n x ∙ ap (either (bit k x)) (power-other k n h) ∙ either-false (bit k x)
+set-other k n x h = set-or k n x ∙ ap (either (bit k x)) (power-other k n h) ∙ either-no (bit k x)
 
 power-le : (n x : ℕ) → bit n x ≡ true → 2 ^ n ≤ x
 power-le n x e = omega (arith, and-le-l x (2 ^ n), and-in n x e)

@@ -3,8 +3,8 @@ use Prim.Native.Nat.{ℕ, _%_, _<_, _^_}
 use borrow.Author.Tests.{eq-eqb}
 use mathlib.Core.Bool.{Bool, false, true}
 use mathlib.Core.List.{List, [], _++_, _∷_}
-use mathlib.Core.Path.{ap, refl, subst, sym, _∙_, _≡_}
-use Rattle.basis.specs.Choice.{both, pick}
+use mathlib.Core.Path.{ap, subst, sym, _∙_, _≡_}
+use Rattle.basis.proofs.Laws.{both-no}
 use Rattle.config.specs.Ranges.{Given}
 use Rattle.config.specs.declared.Config.{Config}
 use Rattle.core.specs.State.{freshCore, vmAt}
@@ -14,7 +14,7 @@ use Rattle.event.specs.declared.Event.the-variants.{Start, Write}
 use Rattle.event.specs.declared.Event.{Event}
 use Rattle.history.proofs.More.{told-more}
 use Rattle.history.specs.History.{Behaviour, Moment, history, next, sinceLast, stateAfter, stateOf, ticking, ticksOf, went}
-use Rattle.history.specs.Moments.{begins, ranIn, runs}
+use Rattle.history.specs.Moments.{begins, ranIn}
 use Rattle.promises.proofs.Only.Fits.{rules-fit}
 use Rattle.promises.specs.Demands.{Rules}
 use Rattle.promises.specs.Refusing.{Refuses, firstOf, linesOf}
@@ -44,24 +44,12 @@ module _ (b : Behaviour) (r : Rules b) (g : Config) (d : Given g) (v : ℕ) (l :
 
   still : (grows : Moment → Bool) → grows m ≡ false → sinceLast (begins v) grows 0 (history b g es ++ (m ∷ [])) ≡ sinceLast (begins v) grows 0 (history b g es)
   unfolding begins
-  still grows h = told-more _ 0 (history b g es) m ∙ rw h (off (went m))
-    where
-      off : (w : Bool) → pick (both w false) 0 (sinceLast (begins v) grows 0 (history b g es)) ≡ sinceLast (begins v) grows 0 (history b g es)
-      off true = refl
-      off false = refl
-
-  off-tick : (w y : Bool) → both (both w false) y ≡ false
-  off-tick true y = refl
-  off-tick false y = refl
+  still grows h = told-more _ 0 (history b g es) m ∙ rw (h, both-no (went m))
 
   pub write-keeps-age : vmAt (m .after) v .age ≡ vmAt (stateOf b g es) v .age
   write-keeps-age =
-      rules-fit b r g d es (Write o x) .clocks .age v l ∙ ap (λ (i : ℕ). i % 2 ^ 32) (still ticking (off (went m))) ∙ sym (r .clocks g d es .age v l)
-    where
-      off : (w : Bool) → both w false ≡ false
-      off true = refl
-      off false = refl
+      rules-fit b r g d es (Write o x) .clocks .age v l ∙ ap (λ (i : ℕ). i % 2 ^ 32) (still ticking (both-no (went m))) ∙ sym (r .clocks g d es .age v l)
 
   pub write-keeps-ran : vmAt (m .after) v .ran ≡ vmAt (stateOf b g es) v .ran
   write-keeps-ran =
-      rules-fit b r g d es (Write o x) .clocks .ran v l ∙ ap (λ (i : ℕ). i % 2 ^ 32) (still (ranIn v) (off-tick (went m) (runs v m))) ∙ sym (r .clocks g d es .ran v l)
+      rules-fit b r g d es (Write o x) .clocks .ran v l ∙ ap (λ (i : ℕ). i % 2 ^ 32) (still (ranIn v) (rw (both-no (went m)))) ∙ sym (r .clocks g d es .ran v l)

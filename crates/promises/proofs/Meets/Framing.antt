@@ -8,7 +8,7 @@ use mathlib.Core.Bool.{Bool, false, not, true}
 use mathlib.Core.Path.{ap, refl, subst, sym, _∙_, _≡_}
 use native.Mathlib.Decide.{ℕ-discrete}
 use native.Mathlib.Omega.{arith}
-use Rattle.basis.proofs.Laws.{false-true, pick-case}
+use Rattle.basis.proofs.Laws.{both-yes, eqb-swap, false-true, pick-case}
 use Rattle.basis.specs.Choice.{both, either, pick}
 use Rattle.change.specs.declared.Change.{Change}
 use Rattle.config.specs.Ranges.{Given}
@@ -34,7 +34,6 @@ use Rattle.guest.specs.declared.Found.the-variants.{At, Nothing}
 use Rattle.guest.specs.declared.Found.{Found}
 use Rattle.guest.specs.declared.Status.{Status}
 use Rattle.guest.specs.declared.Vm.{Vm}
-use Rattle.history.proofs.Counts.{eqb-swap}
 use Rattle.history.proofs.Steps.{Reached, ours-at, vm-small}
 use Rattle.history.specs.History.{momentOf, stateOf, ticksOf}
 use Rattle.promises.proofs.Fields.{each-field}
@@ -87,8 +86,7 @@ unfolding deliver
 deliver-field f h v = go (due (v .status)) refl
   where
     out : (b : Bool) → both b true ≡ false → b ≡ false
-    out true w = w
-    out false w = refl
+    out b w = sym (both-yes b) ∙ w
 
     go : (d : Found) → due (v .status) ≡ d → both (ofDelivery f) (not (eqb (numberOf (deliverBy h v d .number)) 255)) ≡ false → valueOf f (deliverBy h v d .vm .status) ≡ valueOf f (v .status)
     go Nothing e z = refl

@@ -7,7 +7,7 @@ use mathlib.Core.List.{List}
 use mathlib.Core.Logic.{_⊎_, ⊎-elim}
 use mathlib.Core.Path.{ap, refl, subst, sym, _∙_, _≡_}
 use native.Mathlib.Omega.{arith}
-use Rattle.basis.proofs.Laws.{false-true}
+use Rattle.basis.proofs.Laws.{eqb-same, eqb-swap, false-true}
 use Rattle.basis.specs.Choice.{pick}
 use Rattle.basis.specs.Nobody.{nobody}
 use Rattle.change.specs.Changes.{runningWithout}
@@ -26,7 +26,6 @@ use Rattle.event.specs.Kinds.{isTick}
 use Rattle.event.specs.declared.Event.the-variants.{Call, Extra, Fault, Restart, Shutdown, Start, Stop, Tick, Write}
 use Rattle.event.specs.declared.Event.{Event}
 use Rattle.guest.specs.Record.{savedAt}
-use Rattle.history.proofs.Counts.{eqb-same, eqb-swap}
 use Rattle.history.proofs.Lawful.{lawful, runnerBy}
 use Rattle.history.proofs.Steps.{Reached, ours-at, tick-placed}
 use Rattle.history.specs.History.{Moment, history, stateOf, ticksOf}

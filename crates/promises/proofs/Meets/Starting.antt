@@ -69,8 +69,7 @@ module _ (g : Config) (d : Given g) (k : ℕ) (c : Core) (p : Reached g k c) whe
       ∙ ap (λ (x : Config). startedAt (entryAt x v)) (p .same)
 
 no-begin : {X : Type 0} (w : Bool) → both w false ≡ true → X
-no-begin true h = false-true h
-no-begin false h = false-true h
+no-begin w h = false-true (both-right w false h)
 
 -- D1, D18
 pub ours-starts : Starts stepOf

@@ -7,6 +7,7 @@ use mathlib.Core.Bool.{Bool, false, true}
 use mathlib.Core.List.{List, []}
 use mathlib.Core.Path.{ap, refl, _∙_, _≡_}
 use native.Mathlib.Omega.{arith}
+use Rattle.basis.proofs.Laws.{eqb-swap}
 use Rattle.basis.specs.Choice.{pick}
 use Rattle.change.specs.declared.Change.{Change}
 use Rattle.config.specs.Ranges.{Given}
@@ -28,7 +29,6 @@ use Rattle.guest.proofs.Facts.{deliver-standing, pend-standing, write-standing}
 use Rattle.guest.specs.Deliver.{backFrom}
 use Rattle.guest.specs.Record.{fresh, pend, savedAt}
 use Rattle.guest.specs.declared.Vm.{Vm}
-use Rattle.history.proofs.Counts.{eqb-swap}
 use Rattle.history.proofs.Lawful.{lawful}
 use Rattle.history.proofs.More.{part-told}
 use Rattle.history.proofs.Steps.{Reached, at-fresh, ours-at, step-at, vm-small}

@@ -7,13 +7,14 @@ use mathlib.Core.Bool.{Bool, false, true}
 use mathlib.Core.List.{List, append-assoc, map, [], _++_, _∷_}
 use mathlib.Core.Path.{ap, refl, sym, _∙_, _≡_}
 use native.Mathlib.Omega.{arith}
+use Rattle.basis.proofs.Laws.{eqb-swap}
 use Rattle.basis.specs.Choice.{both, pick}
 use Rattle.basis.specs.Nobody.{nobody}
 use Rattle.config.specs.declared.Config.{Config}
 use Rattle.core.specs.Events.{stepOf}
 use Rattle.core.specs.declared.Core.{Core}
 use Rattle.event.specs.declared.Event.{Event}
-use Rattle.history.proofs.Counts.{eqb-swap, num, times-cons, times-nil}
+use Rattle.history.proofs.Counts.{num, times-cons, times-nil}
 use Rattle.history.proofs.Effects.{isTake, removes-is, spare-is}
 use Rattle.history.proofs.Lawful.{Lawful, lawful}
 use Rattle.history.proofs.Steps.{Reached, ours-at, step-at, vm-small}

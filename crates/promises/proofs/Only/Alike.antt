@@ -8,14 +8,13 @@ use mathlib.Core.Logic.{⊎-elim}
 use mathlib.Core.Path.{ap, refl, subst, sym, _∙_, _≡_}
 use native.Mathlib.Decide.{decLt, ℕ-discrete}
 use native.Mathlib.Omega.{arith}
-use Rattle.basis.proofs.Laws.{false-true}
+use Rattle.basis.proofs.Laws.{both-no, eqb-same, false-true}
 use Rattle.basis.specs.Choice.{both, either}
 use Rattle.config.specs.declared.Config.{Config}
 use Rattle.core.specs.declared.Core.{Core}
 use Rattle.core.specs.declared.Stepped.{Stepped}
 use Rattle.event.specs.declared.Event.the-variants.{Call, Extra, Fault, Restart, Shutdown, Start, Stop, Tick, Write}
 use Rattle.event.specs.declared.Event.{Event}
-use Rattle.history.proofs.Counts.{eqb-same}
 use Rattle.history.specs.History.{Moment, momentOf}
 use Rattle.history.specs.Moments.{begins}
 use Rattle.promises.proofs.Due.{due-either}
@@ -24,10 +23,6 @@ use Rattle.promises.proofs.Only.Fits.{Alike, SameField, Two, age-told, 
 use Rattle.promises.specs.Delivering.{Delivered, Highest, NoneDue, Offer, callDelivers, injectOffer, returnOffer, syncOffer, tickOffer}
 use Rattle.promises.specs.Framing.{Enabled, Field, Left, OnTick, Pending, Previous, Reason, Restore, Resume, Running, Since, isField, ofCall, ofDelivery, ofTick, offsetOf}
 use Rattle.table.specs.declared.Clock.{Clock}
-
-both-no : (b : Bool) → both b false ≡ false
-both-no true = refl
-both-no false = refl
 
 -- a Call delivers by service 0, 1, or 2 with a number up to 31, or not at all
 pub by-service : {X : Type 0} {s n : ℕ} → (s ≡ 0 → X) → (s ≡ 1 → X) → (s ≡ 2 → n ≤ 31 → X) → (callDelivers s n ≡ false → X) → X
