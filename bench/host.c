@@ -1,7 +1,8 @@
 /* The library for hosts beside the core in C, one call at a time. For each case and size the call is made again and again on the
    same state, which is put back before each; a mark (bench/icount.c) stands before and after. A line for each such loop tells
    what it was, in the order of the marks: CASE|SIZE|FORM|BASE, where the base is a loop that does all but the call. Before
-   anything is counted, both cores go through the same events and the same images, and every answer and state must be the same. */
+   anything is counted, both cores go through the same events, images and access queries, and every answer and state must be the
+   same. */
 #include <stdio.h>
 #include <stdlib.h>
 #include <unistd.h>
@@ -16,6 +17,13 @@ enum { TURNS = 100 };
 
 typedef core_answer (*lent_form)(core_state *, core_input);
 
+/* An access query. */
+typedef struct query {
+    uint8_t vm;
+    uint32_t address, length;
+    uint8_t way;
+} query;
+
 static void fail(const char *what) {
     printf("ours and C differ: %s\n", what);
     exit(1);
@@ -27,9 +35,15 @@ static bool same_answer(core_answer a, core_answer b) {
            a.notice.data == b.notice.data && a.result == b.result && a.removed == b.removed;
 }
 
+static bool same_regions(const core_regions *a, const core_regions *b) {
+    return a->count == b->count && !memcmp(a->holders, b->holders, 64) && !memcmp(a->permissions, b->permissions, 64) &&
+           !memcmp(a->starts, b->starts, 256) && !memcmp(a->lasts, b->lasts, 256);
+}
+
 static bool same_config(const core_config *a, const core_config *b) {
     return a->count == b->count && a->room == b->room && a->slots == b->slots && !memcmp(a->entries, b->entries, 32) &&
-           !memcmp(a->handlers, b->handlers, 32) && !memcmp(a->owners, b->owners, 64) && !memcmp(a->durations, b->durations, 128);
+           !memcmp(a->handlers, b->handlers, 32) && !memcmp(a->owners, b->owners, 64) && !memcmp(a->durations, b->durations, 128) &&
+           same_regions(&a->regions, &b->regions);
 }
 
 /* Field by field: what stands between the fields is no part of a state. */
@@ -65,25 +79,70 @@ static uint32_t draw(uint32_t below) {
     return (seed >> 8) % below;
 }
 
-static core_state fresh(size z, table t) {
-    uint8_t image[332];
-    core_begun r = core_fresh(image, make_image(image, z, t));
+static core_state fresh_with(size z, table t, const core_regions *held) {
+    uint8_t image[LONGEST_IMAGE];
+    core_begun r = core_fresh(image, make_image_with(image, z, t, held));
     if (r.fault) fail("an image");
     return r.core;
 }
 
-/* Any events, on states of which now and then one byte is another. */
-static void compare_runs(size z) {
-    core_state c = fresh(z, MIXED);
-    for (int n = 0; n < 20000; n++) {
+static core_state fresh(size z, table t) { return fresh_with(z, t, &no_regions); }
+
+/* A range on a grid, the wider the more are wanted, one in eight at the end of the space; or the range of an earlier region. */
+static void draw_range(core_regions *r, unsigned k, unsigned wanted) {
+    unsigned from = draw(4 * wanted), other = draw(2 * k + 2);
+    r->starts[k] = 16 * from;
+    r->lasts[k] = 16 * (from + draw(4)) + 15;
+    if (draw(8) == 0) r->starts[k] = ~r->lasts[k], r->lasts[k] = r->starts[k] + 16 * draw(4) + 15;
+    if (r->lasts[k] < r->starts[k]) r->lasts[k] = UINT32_MAX;
+    if (other < k) r->starts[k] = r->starts[other], r->lasts[k] = r->lasts[other];
+}
+
+/* Legal regions, at most as many as wanted. */
+static core_regions draw_regions(unsigned vms, unsigned wanted) {
+    core_regions r = {0};
+    unsigned held[CORE_VMS] = {0};
+    if (draw(8) == 0) return make_regions((layout)draw(LAYOUTS), vms, wanted, draw(4));
+    for (unsigned tries = 0; tries < 8 * wanted && r.count < wanted; tries++) {
+        core_regions next = r;
+        unsigned k = next.count++, holder = draw(vms);
+        next.holders[k] = (uint8_t)holder;
+        next.permissions[k] = (uint8_t)(1 + draw(3));
+        draw_range(&next, k, wanted);
+        if (held[holder] < CORE_REGIONS_EACH && !clashes(&next, k)) r = next, held[holder]++;
+    }
+    return r;
+}
+
+/* Any events, on states of which now and then one byte is another: any byte, or, where there are regions, mostly one of theirs. */
+static void compare_runs(size z, const core_regions *held, int events) {
+    core_state c = fresh_with(z, MIXED, held);
+    for (int n = 0; n < events; n++) {
         core_input e = {.kind = (uint8_t)(0x0f + draw(11)), .byte = (uint8_t)draw(10), .word = draw(40), .next = draw(65536)};
         if (e.kind == CORE_WRITE) e.byte = (uint8_t)(4 * e.byte), e.word = draw(1u << 24);
         if (n % 2) e = (core_input){.kind = CORE_TICK, .word = draw(65536)};
         c = compare("a run", c, e);
         core_state other = c;
-        ((uint8_t *)&other)[draw(sizeof other)] = (uint8_t)draw(n % 3 ? 4 : 256);
+        size_t at = draw(sizeof other);
+        if (held->count && draw(4)) at = offsetof(core_state, config.regions) + draw(sizeof *held);
+        ((uint8_t *)&other)[at] = (uint8_t)draw(n % 3 ? 4 : 256);
         compare("a state with another byte", other, e);
     }
+}
+
+static void compare_held_runs(size z) {
+    for (int n = 0; n < 50; n++) {
+        core_regions held = draw_regions(z.vms, CORE_REGIONS_EACH * z.vms - draw(6));
+        compare_runs(z, &held, 200);
+    }
+}
+
+static bool met[256]; /* the faults of the images compared */
+
+static void compare_image(const uint8_t *image, size_t m) {
+    core_begun a = core_fresh(image, m), b = read_image(image, m);
+    if (a.fault != b.fault || a.offset != b.offset || !same_state(&a.core, &b.core)) fail("an image");
+    met[a.fault] = true;
 }
 
 static void compare_images(size z) {
@@ -92,9 +151,84 @@ static void compare_images(size z) {
         size_t m = make_image(image, z, (table)(n % 3));
         if (n > 100) image[draw((uint32_t)m)] = (uint8_t)draw(n % 2 ? 6 : 256);
         if (n > 4000) m = draw((uint32_t)m + 4);
-        core_begun a = core_fresh(image, m), b = read_image(image, m);
-        if (a.fault != b.fault || a.offset != b.offset || !same_state(&a.core, &b.core)) fail("an image");
+        compare_image(image, m);
     }
+}
+
+/* One to three numbers of one region are others, or its range is that of another region upside down. */
+static void spoil(core_regions *r, unsigned vms) {
+    unsigned k = draw(r->count);
+    for (unsigned n = 1 + draw(3); n > 0; n--) {
+        unsigned other = draw(r->count), what = draw(5);
+        if (what == 0) r->holders[k] = (uint8_t)draw(vms + 1);
+        if (what == 1) r->permissions[k] = (uint8_t)draw(5);
+        if (what == 2) r->starts[k] = r->starts[other] + draw(3) - 1;
+        if (what == 3) r->lasts[k] = r->lasts[other] + draw(3) - 1;
+        if (what == 4) r->starts[k] = r->lasts[other], r->lasts[k] = r->starts[other];
+    }
+}
+
+/* Images with regions: as they are, with other numbers, with a record twice (so that there may be 65), with another byte, cut;
+   and now and then with 65 slots. */
+static void compare_held_images(size z) {
+    uint8_t image[LONGEST_IMAGE + 16];
+    size_t first = 3 + 9 * z.vms;
+    unsigned slots = z.slots;
+    for (int n = 0; n < 5000; n++) {
+        core_regions r = draw_regions(z.vms, 1 + draw(CORE_REGIONS_EACH * z.vms));
+        if (n % 5 == 1 || n % 5 == 2) spoil(&r, z.vms);
+        z.slots = n % 50 ? slots : CORE_SLOTS + 1;
+        size_t m = make_image_with(image, z, MIXED, &r), again = first + 11 * draw(r.count);
+        if (n % 5 == 2) memmove(image + again + 11, image + again, m - again), m += 11;
+        if (n % 5 == 3) image[draw((uint32_t)m)] = (uint8_t)draw(n % 2 ? 6 : 256);
+        if (n % 5 == 4) m = draw((uint32_t)m + 4);
+        compare_image(image, m);
+    }
+}
+
+/* That the images had each fault, and some none. */
+static void all_met(void) {
+    static const uint8_t faults[] = {0, 20, 21, 22, 23, 24, 25, 26, 27, 28, 32, 33, 34, 35, 36};
+    for (unsigned k = 0; k < sizeof faults; k++)
+        if (!met[faults[k]]) printf("no image had fault %u\n", faults[k]), exit(1);
+}
+
+/* A query from near a region's start, or near its last address, to near that of another or its own; or of any length. Mostly its
+   VM and its permission are asked for. */
+static query draw_query(const core_config *c) {
+    const core_regions *r = &c->regions;
+    unsigned k = draw(r->count + 1u) % CORE_REGIONS, to = draw(2) ? k : draw(r->count + 1u) % CORE_REGIONS;
+    query q = {.vm = r->holders[k], .address = (draw(4) ? r->starts[k] : r->lasts[k]) + draw(4) - 1, .way = r->permissions[k]};
+    q.length = r->lasts[to] + draw(3) - q.address;
+    if (!draw(4)) q.vm = (uint8_t)draw(c->count + 1u);
+    if (!draw(4)) q.way = (uint8_t)draw(5);
+    if (!draw(4)) q.length = draw(4) ? draw(40) : draw(1u << 24) << 8;
+    return q;
+}
+
+static bool compare_query(const core_config *c) {
+    query q = draw_query(c);
+    bool answer = core_allows(*c, q.vm, q.address, q.length, q.way);
+    if (answer != allows(c, q.vm, q.address, q.length, q.way)) fail("an access query");
+    if (q.vm >= c->count || q.way < 1 || q.way > 3 || !legal(c)) return answer;
+    if (answer != granted(&c->regions, q.vm, q.address, q.length, q.way)) fail("an access query");
+    return answer;
+}
+
+/* Queries of legal configurations, and of the same with another byte. */
+static void compare_queries(size z) {
+    unsigned yes = 0;
+    for (int n = 0; n < 200; n++) {
+        core_regions held = draw_regions(z.vms, draw(CORE_REGIONS_EACH * z.vms + 1));
+        core_config c = fresh_with(z, MIXED, &held).config;
+        for (int k = 0; k < 50; k++) yes += compare_query(&c);
+        for (int k = 0; k < 20; k++) {
+            core_config other = c;
+            ((uint8_t *)&other)[draw(sizeof other)] = (uint8_t)draw(k % 3 ? 4 : 256);
+            compare_query(&other);
+        }
+    }
+    if (yes < 1000) fail("too few access queries are yes");
 }
 
 static uint32_t sum; /* of all answers, so that none is left out */
@@ -177,6 +311,24 @@ __attribute__((noinline)) static void loop_read(core_begun (*f)(const uint8_t *,
         sum += r.fault + r.core.config.count;
         keep(&r);
     }
+    mark();
+}
+
+__attribute__((noinline)) static void loop_ours(const core_config *c, query q) {
+    mark();
+    for (int n = 0; n < TURNS; n++) sum += core_allows(*c, q.vm, q.address, q.length, q.way);
+    mark();
+}
+
+__attribute__((noinline)) static void loop_allows(const core_config *c, query q) {
+    mark();
+    for (int n = 0; n < TURNS; n++) sum += allows(c, q.vm, q.address, q.length, q.way);
+    mark();
+}
+
+__attribute__((noinline)) static void loop_granted(const core_config *c, query q) {
+    mark();
+    for (int n = 0; n < TURNS; n++) sum += granted(&c->regions, q.vm, q.address, q.length, q.way);
     mark();
 }
 
@@ -290,7 +442,7 @@ static void count_shapes(void) {
                 for (int full = 0; full < 2; full++)
                     for (unsigned n = 0; n < sizeof cases / sizeof cases[0]; n++) {
                         size z = {"", vms, lengths[k], full ? CORE_ROOM : 0};
-                        uint8_t image[332];
+                        uint8_t image[LONGEST_IMAGE];
                         core_begun r = core_fresh(image, make_image(image, z, (table)t));
                         if (r.fault) continue;
                         test_case c = cases[n];
@@ -303,17 +455,104 @@ static void count_shapes(void) {
                     }
 }
 
-static void count_reading(size z) {
-    uint8_t image[332];
-    size_t m = make_image(image, z, MIXED);
-    name("read", z.name, "core_fresh", "empty");
+/* A layout of regions, and how many of them may be written: each first of so many. */
+typedef struct held_case {
+    const char *name;
+    layout layout;
+    unsigned every;
+} held_case;
+
+/* The name of each says to the tables that it is one of these. */
+static const held_case held_cases[] = {
+    {"regions: apart, listed upwards, none writable", UPWARDS, 0},
+    {"regions: apart, listed upwards, a third writable", UPWARDS, 3},
+    {"regions: apart, listed upwards, all writable", UPWARDS, 1},
+    {"regions: apart, shuffled, none writable", SHUFFLED, 0},
+    {"regions: apart, shuffled, a third writable", SHUFFLED, 3},
+    {"regions: apart, shuffled, all writable", SHUFFLED, 1},
+    {"regions: shared in pairs of one range, a third writable", SHARED, 3},
+    {"regions: shared in pairs of one range, all writable", SHARED, 1},
+    {"regions: those of a VM overlap, a third writable", HEAPED, 3},
+    {"regions: those of a VM overlap, all writable", HEAPED, 1},
+};
+
+/* A Tick in a slot that lasts, with the test of the regions before it. */
+static void count_tick(const char *what, size z, const core_regions *held) {
+    const test_case t = {.name = what, .before = {TICK, TICK}, .event = TICK};
+    core_state c = state_from(&t, fresh_with(z, MIXED, held));
+    compare(what, c, t.event);
+    count_form(&t, z.name, "core_live", core_live, &c);
+    count_form(&t, z.name, "C checked", checked, &c);
+}
+
+static void count_regions(void) {
+    static const struct { int size; unsigned count; } shapes[] = {{0, 16}, {2, 16}, {2, 64}};
+    count_tick("regions: none", sizes[0], &no_regions);
+    count_tick("regions: none", sizes[2], &no_regions);
+    for (unsigned n = 0; n < sizeof held_cases / sizeof held_cases[0]; n++)
+        for (int k = 0; k < 3; k++) {
+            const held_case *h = &held_cases[n];
+            size z = sizes[shapes[k].size];
+            core_regions held = make_regions(h->layout, z.vms, shapes[k].count, h->every);
+            count_tick(h->name, z, &held);
+        }
+}
+
+/* A query of VM 0 to write, the regions that there are, all of them writable, and the answer. */
+typedef struct query_case {
+    const char *name;
+    layout layout;
+    unsigned count;
+    uint32_t address, length;
+    bool answer;
+} query_case;
+
+/* Of those apart VM 0 has regions 0, 8, .. 56; region k begins at 0x10000 * (k + 1). Its joined ones are all from 0x100000 on. */
+static const query_case query_cases[] = {
+    {"query: 1 region, and it holds the range: yes", UPWARDS, 1, 0x10000, REGION_BYTES, true},
+    {"query: 64 regions, one in their middle holds the range: yes", UPWARDS, 64, 0x210000, REGION_BYTES, true},
+    {"query: 64 regions, 8 adjoining ones hold it, listed upwards: yes", JOINED, 64, 0x100000, 8 * REGION_BYTES, true},
+    {"query: 64 regions, 8 adjoining ones hold it, listed downwards: yes", JOINED_DOWN, 64, 0x100000, 8 * REGION_BYTES, true},
+    {"query: 64 regions, none holds its first byte: no", UPWARDS, 64, 0, REGION_BYTES, false},
+    {"query: 64 regions, 8 adjoining ones hold all but its last byte: no", JOINED, 64, 0x100000, 8 * REGION_BYTES + 1, false},
+};
+
+static void count_query(const query_case *t, size z) {
+    core_regions held = make_regions(t->layout, z.vms, t->count, 1);
+    core_config c = fresh_with(z, MIXED, &held).config;
+    query q = {.address = t->address, .length = t->length, .way = CORE_TO_WRITE};
+    if (core_allows(c, q.vm, q.address, q.length, q.way) != t->answer) fail(t->name);
+    if (allows(&c, q.vm, q.address, q.length, q.way) != t->answer) fail(t->name);
+    if (granted(&c.regions, q.vm, q.address, q.length, q.way) != t->answer) fail(t->name);
+    name(t->name, z.name, "core_allows", "empty");
+    loop_ours(&c, q);
+    name(t->name, z.name, "C checked", "empty");
+    loop_allows(&c, q);
+    name(t->name, z.name, "C trusting", "empty");
+    loop_granted(&c, q);
+}
+
+static void count_reading(const char *what, size z, const core_regions *held) {
+    uint8_t image[LONGEST_IMAGE];
+    size_t m = make_image_with(image, z, MIXED, held);
+    compare_image(image, m);
+    name(what, z.name, "core_fresh", "empty");
     loop_read(core_fresh, image, m);
-    name("read", z.name, "C", "empty");
+    name(what, z.name, "C", "empty");
     loop_read(read_image, image, m);
 }
 
+static void compare_all(size z) {
+    compare_runs(z, &no_regions, 20000);
+    compare_held_runs(z);
+    compare_images(z);
+    compare_held_images(z);
+    compare_queries(z);
+}
+
 int main(void) {
-    for (int k = 0; k < SIZES; k++) compare_runs(sizes[k]), compare_images(sizes[k]);
+    for (int k = 0; k < SIZES; k++) compare_all(sizes[k]);
+    all_met();
     core_state c = fresh(sizes[0], MIXED);
     printf("turns %d\n", TURNS);
     name("base", "", "empty", ""), loop_empty();
@@ -324,7 +563,13 @@ int main(void) {
             count_case(&cases[n], late);
         else
             for (int k = cases[n].last ? SIZES - 1 : 0; k < SIZES; k++) count_case(&cases[n], sizes[k]);
-    for (int k = 0; k < SIZES; k++) count_reading(sizes[k]);
+    count_regions();
+    for (unsigned n = 0; n < sizeof query_cases / sizeof query_cases[0]; n++) count_query(&query_cases[n], sizes[SIZES - 1]);
+    for (int k = 0; k < SIZES; k++) {
+        core_regions held = make_regions(UPWARDS, sizes[k].vms, CORE_REGIONS_EACH * sizes[k].vms, 3);
+        count_reading("read", sizes[k], &no_regions);
+        count_reading("read with regions", sizes[k], &held);
+    }
     count_shapes();
     printf("sum %u\n", sum);
     return 0;

@@ -20,6 +20,7 @@
 #ifndef GERSTENDOCHT_H
 #define GERSTENDOCHT_H
 
+#include <stdbool.h>
 #include <stddef.h>
 #include <stdint.h>
 
@@ -29,6 +30,15 @@ extern "C" {
 
 /* The limits (S1 to S3), and the number that stands for none: no VM runs, a slot is spare, nothing was delivered. */
 enum { CORE_VMS = 8, CORE_ROOM = 16, CORE_SLOTS = 64, CORE_NONE = 255 };
+
+/* The limits of memory regions: in all (H1), and of one VM (H5). */
+enum { CORE_REGIONS = 64, CORE_REGIONS_EACH = 8 };
+
+/* The permissions of a region (H3): it may be read; read and written; only executed. */
+enum { CORE_MAY_READ = 1, CORE_MAY_WRITE = 2, CORE_MAY_EXECUTE = 3 };
+
+/* The ways of an access (H8): a read is allowed by CORE_MAY_READ and CORE_MAY_WRITE, the others by one permission each. */
+enum { CORE_TO_READ = 1, CORE_TO_WRITE = 2, CORE_TO_EXECUTE = 3 };
 
 /* The kinds of an event (E2 to E10), and which fields of core_input each reads. */
 enum {
@@ -46,6 +56,15 @@ enum {
 /* The standings of a VM (T3); CORE_UNBORN is that of a VM that was never started. */
 enum { CORE_UNBORN = 0, CORE_READY = 1, CORE_STOPPED = 2, CORE_SHUT = 3, CORE_ERROR = 4 };
 
+/* The memory regions, in the order of their records; the places past the count hold zero (H1). */
+typedef struct core_regions {
+    uint8_t count;           /* how many regions */
+    uint8_t holders[64];     /* the VM of each region */
+    uint8_t permissions[64]; /* what it may do there */
+    uint32_t starts[64];     /* the first address of each region */
+    uint32_t lasts[64];      /* its last address, which is in it */
+} core_regions;
+
 /* What an image says. The places past the counts hold zero (S7). */
 typedef struct core_config {
     uint8_t count;          /* how many VMs */
@@ -55,6 +74,7 @@ typedef struct core_config {
     uint32_t handlers[8];   /* each VM's pseudo-interrupt handler */
     uint8_t owners[64];     /* the VM that each slot names, or CORE_NONE for spare */
     uint16_t durations[64]; /* the ticks that each slot lasts */
+    core_regions regions;
 } core_config;
 
 /* Where the core stands in the table. The two flags are 0 or 1. */
@@ -147,7 +167,7 @@ typedef struct core_begun {
 } core_begun;
 
 /*
- * Reads an image (I1 to I14). With fault 0 the state is the fresh core of its configuration (T6). Beside a
+ * Reads an image (I1 to I15). With fault 0 the state is the fresh core of its configuration (T6). Beside a
  * fault it is one that is not sound: it refuses every event with 1.
  */
 core_begun core_fresh(const uint8_t *image, size_t length);
@@ -165,6 +185,13 @@ core_answer core_live(core_state *core, core_input event);
  * ends and writes nothing but the state and the answer, but what it answers has no meaning.
  */
 core_answer core_inner(core_state *core, core_input event);
+
+/*
+ * The access query (H8 to H11): whether VM `vm` may access `length` bytes from `address` on, in the way asked. Any
+ * numbers get an answer: a configuration that is not legal, a VM that it does not have and a way that there is not
+ * are no. What is legal is tested at each call.
+ */
+bool core_allows(core_config config, uint8_t vm, uint32_t address, uint32_t length, uint8_t way);
 
 #ifdef __cplusplus
 }

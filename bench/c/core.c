@@ -3,9 +3,9 @@
 
 #include <string.h>
 
-/* Whether n bytes, at most those of all durations, are zero. */
+/* Whether n bytes, at most those of all starts of regions, are zero. */
 static bool zeros(const void *from, size_t n) {
-    static const uint8_t none[2 * CORE_SLOTS];
+    static const uint8_t none[4 * CORE_REGIONS];
     return memcmp(from, none, n) == 0;
 }
 
@@ -24,11 +24,66 @@ static bool legal_slots(const core_config *c) {
            zeros(c->durations + slots, 2 * (CORE_SLOTS - slots));
 }
 
+bool clashes(const core_regions *r, unsigned k) {
+    uint8_t holder = r->holders[k];
+    bool written = r->permissions[k] == CORE_MAY_WRITE;
+    uint32_t start = r->starts[k], last = r->lasts[k];
+    for (unsigned i = 0; i < k; i++) {
+        if (r->holders[i] == holder) continue;
+        if (!written && r->permissions[i] != CORE_MAY_WRITE) continue;
+        if (r->lasts[i] < start || last < r->starts[i]) continue;
+        if (r->starts[i] == start && r->lasts[i] == last) continue;
+        return true;
+    }
+    return false;
+}
+
+/* H1 to H6. */
+static bool legal_regions(const core_config *c) {
+    const core_regions *r = &c->regions;
+    unsigned count = r->count, held[CORE_VMS] = {0};
+    if (count > CORE_REGIONS) return false;
+    for (unsigned k = 0; k < count; k++) {
+        if (r->holders[k] >= c->count || ++held[r->holders[k]] > CORE_REGIONS_EACH) return false;
+        if (r->permissions[k] < CORE_MAY_READ || r->permissions[k] > CORE_MAY_EXECUTE) return false;
+        if (r->starts[k] > r->lasts[k] || clashes(r, k)) return false;
+    }
+    unsigned rest = CORE_REGIONS - count;
+    return zeros(r->holders + count, rest) && zeros(r->permissions + count, rest) && zeros(r->starts + count, 4 * rest) &&
+           zeros(r->lasts + count, 4 * rest);
+}
+
 bool legal(const core_config *c) {
     if (c->count < 1 || c->count > CORE_VMS || c->room > CORE_ROOM || c->slots < 1 || c->slots > CORE_SLOTS) return false;
     for (unsigned i = c->count; i < CORE_VMS; i++)
         if (c->entries[i] | c->handlers[i]) return false;
-    return legal_slots(c);
+    return legal_slots(c) && legal_regions(c);
+}
+
+/* H8. */
+static bool permits(uint8_t permission, uint8_t way) {
+    return permission == way || (permission == CORE_MAY_WRITE && way == CORE_TO_READ);
+}
+
+bool granted(const core_regions *r, uint8_t vm, uint32_t address, uint32_t length, uint8_t way) {
+    if (length == 0) return true;
+    uint32_t last = address + (length - 1), from;
+    if (last < address) return false;
+    do {
+        from = address;
+        for (unsigned k = 0, count = r->count; k < count; k++) {
+            if (r->holders[k] != vm || !permits(r->permissions[k], way)) continue;
+            if (address < r->starts[k] || r->lasts[k] < address) continue;
+            if (last <= r->lasts[k]) return true;
+            address = r->lasts[k] + 1;
+        }
+    } while (address != from);
+    return false;
+}
+
+bool allows(const core_config *c, uint8_t vm, uint32_t address, uint32_t length, uint8_t way) {
+    if (vm >= c->count || way < CORE_TO_READ || way > CORE_TO_EXECUTE || !legal(c)) return false;
+    return granted(&c->regions, vm, address, length, way);
 }
 
 /* A VM record as in a fresh state. */

@@ -12,10 +12,14 @@
 bool sound(const core_state *c);                             /* W1 to W12 */
 core_answer trusting(core_state *c, core_input e);           /* an event, in place, on a state that is sound */
 core_answer checked(core_state *c, core_input e);            /* the test, then the event */
-bool legal(const core_config *c);                            /* S1 to S7 */
+bool legal(const core_config *c);                            /* S1 to S7, H1 to H6 */
+bool clashes(const core_regions *r, unsigned k);             /* H6 broken by region k and an earlier one */
+bool allows(const core_config *c, uint8_t vm, uint32_t address, uint32_t length, uint8_t way);   /* H8 to H11 */
+bool granted(const core_regions *r, uint8_t vm, uint32_t address, uint32_t length, uint8_t way);   /* the same where all is known */
 
 /* image.c */
-core_begun read_image(const uint8_t *b, size_t n);           /* I1 to I10 */
+enum { LONGEST_IMAGE = 1036 };                               /* S9 */
+core_begun read_image(const uint8_t *b, size_t n);           /* I1 to I10, I13 to I15 */
 uint8_t write_image(const core_config *c, uint8_t *b, size_t room, size_t *size); /* I11, I12: the refusal */
 
 /* log.c */

@@ -2,7 +2,7 @@
 #include "core.h"
 
 static void print_again(const uint8_t *image, size_t m) {
-    static uint8_t again[332], out[1024];
+    static uint8_t again[LONGEST_IMAGE], out[2 * LONGEST_IMAGE + 16];
     size_t size;
     core_begun r = read_image(image, m);
     if (r.fault || write_image(&r.core.config, again, sizeof again, &size)) return;

@@ -8,13 +8,14 @@
 
 #include "gerstendocht.h"
 
-_Static_assert(sizeof(core_config) == 260, "core_config");
+_Static_assert(sizeof(core_regions) == 644, "core_regions");
+_Static_assert(sizeof(core_config) == 904, "core_config");
 _Static_assert(sizeof(core_vm) == 56, "core_vm");
-_Static_assert(sizeof(core_state) == 732, "core_state");
+_Static_assert(sizeof(core_state) == 1376, "core_state");
 _Static_assert(sizeof(core_input) == 12, "core_input");
 _Static_assert(sizeof(core_answer) == 24, "core_answer");
-_Static_assert(sizeof(core_stepped) == 756, "core_stepped");
-_Static_assert(sizeof(core_begun) == 752, "core_begun");
+_Static_assert(sizeof(core_stepped) == 1400, "core_stepped");
+_Static_assert(sizeof(core_begun) == 1392, "core_begun");
 
 static unsigned passed, failed;
 
@@ -32,7 +33,7 @@ static void check(const char *what, int holds)
 static const uint8_t image[] = {1, 2, 1,    2, 0,    0x10, 0, 0, 4, 0x10, 0, 0, 2, 0, 0x20, 0, 0, 4,
                                 0x20, 0, 0, 3, 0, 2, 0,    3, 1, 1, 0,    3, 0xff, 1, 0, 4};
 
-/* A legal image with as much of everything as there may be: 8 VMs, a queue of 16, 64 slots. */
+/* A legal image with as much of everything as there may be: 8 VMs, a queue of 16, 64 regions, 64 slots. */
 static size_t full_image(uint8_t *b)
 {
     size_t n = 0;
@@ -41,6 +42,12 @@ static size_t full_image(uint8_t *b)
         const uint8_t vm[] = {2, (uint8_t)i, 1, 2, 3, (uint8_t)i, 5, 6, 7};
         memcpy(b + n, vm, sizeof vm);
         n += sizeof vm;
+    }
+    for (int i = 0; i < 64; i++) {
+        const uint8_t last = i == 63 ? 0xff : 0x0f;
+        const uint8_t region[] = {5, (uint8_t)(i % 8), (uint8_t)(1 + i % 3), 0, (uint8_t)i, 0, 0x40, last, (uint8_t)i, 0, 0x40};
+        memcpy(b + n, region, sizeof region);
+        n += sizeof region;
     }
     for (int i = 0; i < 64; i++) {
         const uint8_t slot[] = {3, (uint8_t)(i % 8), (uint8_t)(100 + i), 1};
@@ -130,20 +137,25 @@ static void worked_run(void)
 }
 
 /*
- * An image of 332 bytes (S9), each place of it; a full queue (T5), the first tick (D1, D4), the number removed (A8); then the
+ * An image of 1,036 bytes (S9), each place of it; a full queue (T5), the first tick (D1, D4), the number removed (A8); then the
  * image is cut, and the core beside the fault refuses (I8, T7).
  */
 static void full_run(void)
 {
-    uint8_t b[332];
+    uint8_t b[1036];
     core_begun begun = core_fresh(b, full_image(b));
     core_state core = begun.core;
-    check("332 bytes are read", begun.fault == 0 && core.config.count == 8 && core.config.room == 16 && core.config.slots == 64);
+    check("1,036 bytes are read", begun.fault == 0 && core.config.count == 8 && core.config.room == 16 &&
+        core.config.slots == CORE_SLOTS && core.config.regions.count == CORE_REGIONS);
     int same = 1;
     for (unsigned i = 0; i < 8; i++)
         same &= core.config.entries[i] == 0x03020100u + i && core.config.handlers[i] == 0x07060500u + i;
     for (unsigned i = 0; i < 64; i++)
         same &= core.config.owners[i] == i % 8 && core.config.durations[i] == 356 + i;
+    const core_regions *r = &core.config.regions;
+    for (unsigned i = 0; i < 64; i++)
+        same &= r->holders[i] == i % 8 && r->permissions[i] == 1 + i % 3 && r->starts[i] == 0x40000000u + 256 * i &&
+            r->lasts[i] == 0x40000000u + 256 * i + (i == 63 ? 0xff : 0x0f);
     check("each place of the configuration", same);
     send(&core, CORE_START, 0, 0, 0);
     for (uint8_t i = 0; i < 16; i++)
@@ -158,16 +170,35 @@ static void full_run(void)
     core_answer a = send(&core, CORE_STOP, 3, 0, 0);
     check("the number removed", a.removed == 2 && core.queue.len == 14 && a.running == 0);
     check("nothing removed by a refusal", send(&core, CORE_STOP, 3, 0, 0).removed == 0);
-    begun = core_fresh(b, 331);
-    check("the fault of a cut image", begun.fault == 20 && begun.offset == 331);
+    begun = core_fresh(b, 1035);
+    check("the fault of a cut image", begun.fault == 20 && begun.offset == 1035);
     core = begun.core;
     check("the core beside a fault", send_to(&core, 0, (core_input){.kind = CORE_START}).refusal == 1);
+}
+
+/* The access query (H8 to H11): region 62 is VM 6's, to be executed; 63 is VM 7's, to be read; 61 VM 5's, to be written. */
+static void queries(void)
+{
+    uint8_t b[1036];
+    core_config c = core_fresh(b, full_image(b)).core.config;
+    check("execute only", core_allows(c, 6, 0x40003e00, 16, CORE_TO_EXECUTE) && !core_allows(c, 6, 0x40003e00, 16, CORE_TO_READ));
+    check("read only", core_allows(c, 7, 0x40003f00, 256, CORE_TO_READ) && !core_allows(c, 7, 0x40003f00, 1, CORE_TO_WRITE));
+    check("one byte past a region", !core_allows(c, 7, 0x40003f00, 257, CORE_TO_READ));
+    check("read and write", core_allows(c, 5, 0x40003d00, 16, CORE_TO_WRITE) && core_allows(c, 5, 0x40003d0f, 1, CORE_TO_READ) &&
+        !core_allows(c, 5, 0x40003d00, 16, CORE_TO_EXECUTE));
+    check("the region of another VM", !core_allows(c, 4, 0x40003d00, 16, CORE_TO_WRITE));
+    check("no bytes", core_allows(c, 0, 0xffffffff, 0, CORE_TO_WRITE));
+    check("an unknown VM or way", !core_allows(c, 8, 0, 0, CORE_TO_READ) && !core_allows(c, 0, 0, 0, 0) && !core_allows(c, 0, 0, 0, 4));
+    check("past the end of the space", !core_allows(c, 0, 0xffffffff, 2, CORE_TO_READ));
+    c.regions.lasts[61] = 0x40003e00;
+    check("regions that touch are not legal", !core_allows(c, 7, 0x40003f00, 256, CORE_TO_READ));
 }
 
 int main(void)
 {
     worked_run();
     full_run();
+    queries();
     printf("%u checks passed, %u failed\n", passed, failed);
     return failed != 0;
 }

@@ -1,5 +1,6 @@
 //! The independent twin: a second codec, core and run text, and the tools that compare with them.
 
+pub mod access;
 pub mod command_line;
 pub mod compare;
 pub mod core;

@@ -70,7 +70,7 @@ fn many_answers_a_torn_stream() {
 /// No rule: the arguments of the twin.
 #[test]
 fn wrong_arguments_are_named() {
-    let wrong: [(&[&str], &str); 12] = [
+    let wrong: [(&[&str], &str); 17] = [
         (&[], "no command given"),
         (&["fly"], "'fly' is not a command"),
         (&["pack", "one"], "'pack' has other arguments"),
@@ -83,6 +83,11 @@ fn wrong_arguments_are_named() {
         (&["report", "--wrong", "GuestClock"], "there is no wrong twin 'GuestClock'"),
         (&["report", "one", "two", "three"], "'report' has other arguments"),
         (&["pack-logs", "one"], "'pack-logs' has other arguments"),
+        (&["access", "one", "two", "three"], "'access' has other arguments"),
+        (&["access", "--wrong", "CarriesPlace"], "there is no wrong twin 'CarriesPlace'"),
+        (&["many", "--wrong", "GapIsClosed"], "there is no wrong twin 'GapIsClosed'"),
+        (&["pack-queries", "one"], "'pack-queries' has other arguments"),
+        (&["compare", "--accesses", "x", "--seed", "1"], "--runlog is missing"),
     ];
     for (arguments, words) in wrong {
         let (status, output, message) = twin(arguments);
@@ -116,7 +121,7 @@ fn closed_output() -> Stdio {
 fn an_output_that_cannot_be_written_is_no_matter() {
     let place = folder("closed-output");
     fs::write(place.join("stream"), [0; 4]).expect("written");
-    for command in ["run", "state", "report", "many"] {
+    for command in ["run", "state", "report", "access", "many"] {
         let mut program = Command::new(env!("CARGO_BIN_EXE_twin"));
         program.arg(command).current_dir(&place).stdin(File::open(place.join("stream")).expect("there"));
         let printed = program.output().expect("the twin starts").stdout;

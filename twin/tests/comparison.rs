@@ -52,19 +52,20 @@ fn compare_with(name: &str, options: &[&str]) -> (Outcome, PathBuf) {
 #[test]
 fn the_twin_agrees_with_itself_and_reaches_every_point() {
     let many = format!("{TWIN} many");
-    let (outcome, keep) = compare("right", &many, &format!("{TWIN} run"), "200");
+    let (outcome, keep) = compare("right", &many, &format!("{TWIN} run"), "500");
     assert!(outcome.well, "{}", outcome.text);
     let last = outcome.text.lines().last().expect("some lines");
-    assert!(last.starts_with("twin: 200 cases, ") && last.ends_with(" events, no difference"), "{last}");
+    assert!(last.starts_with("twin: 500 cases, ") && last.ends_with(" events, no difference"), "{last}");
     assert!(outcome.text.contains("runlog: 32 runs with files"));
     assert!(!outcome.text.contains("report"), "no reports were asked for");
+    assert!(!outcome.text.contains("access: "), "no access queries were asked for");
     assert!(!keep.exists());
 }
 
 /// No rule: the comparison with a right report.
 #[test]
 fn the_reports_of_the_twin_agree_with_themselves_and_reach_every_point() {
-    let (outcome, keep) = compare_reports("right-report", &format!("{TWIN} report"), "140", "60");
+    let (outcome, keep) = compare_reports("right-report", &format!("{TWIN} report"), "500", "60");
     assert!(outcome.well, "{}", outcome.text);
     let folders = 60 + edge_reports(4).len();
     assert!(outcome.text.contains(&format!("\nreport: {folders} folders, ")), "{}", outcome.text);
@@ -161,19 +162,23 @@ fn too_few_cases_are_said_to_be_too_few() {
     assert!(outcome.text.contains("points were never reached"), "{}", outcome.text);
 }
 
-/// N13 to N20, M1 to M6: every easy mistake and every other wrong twin is told from the right one.
+/// H1 to H11, I6, I8, I9, I15, N13 to N25, M1 to M6: every easy mistake and every other wrong twin is told
+/// from the right one.
 #[test]
 fn every_wrong_twin_is_told_apart() {
-    let (text, well) = selftest(1, 400);
+    let (text, well) = selftest(1, 500);
     assert!(well, "{text}");
-    assert_eq!(text.matches("told apart at case").count(), 28);
+    assert_eq!(text.matches("told apart at case").count(), 59);
     assert_eq!(text.matches("told apart at folder").count(), 19);
+    assert_eq!(text.matches("told apart at query folder").count(), 32);
     let (text, well) = selftest(1, 1);
     assert!(!well && text.contains("NEVER told apart in 1 cases"));
     assert!(text.contains("NEVER told apart in 1 folders"));
+    assert!(text.contains("NEVER told apart in 1 query folders"));
 }
 
-/// I8, A4, A5, R1, D13: every fault, notice, code and refusal, and every number at every delivery.
+/// H1 to H7, I8, I9, I15, A4, A5, R1, D13: every fault, notice, code and refusal, and every number at every
+/// delivery.
 #[test]
 fn the_edge_cases_alone_reach_every_point() {
     for seed in 0..3 {
@@ -235,7 +240,7 @@ fn the_fixed_folders_alone_reach_every_point_of_the_reports() {
 #[test]
 fn cases_depend_on_the_seed_and_the_number_alone() {
     let (one, again, other) = (CaseMaker::new(1), CaseMaker::new(1), CaseMaker::new(2));
-    let numbers = 200..260;
+    let numbers = one.edge_count()..one.edge_count() + 60;
     assert!(numbers.clone().all(|number| one.case(number) == again.case(number)));
     assert!(numbers.clone().all(|number| one.case(number) != one.case(number + 1)));
     assert!(numbers.into_iter().all(|number| one.case(number) != other.case(number)));

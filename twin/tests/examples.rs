@@ -6,8 +6,10 @@ use std::fs;
 use std::path::PathBuf;
 
 use common::{worked_case, worked_lines};
+use twin::access::folder::AccessFolder;
 use twin::core::flaw::Flaw;
-use twin::readable_text::parse::{case_of, report_folder_of};
+use twin::image::read::read_image;
+use twin::readable_text::parse::{access_folder_of, case_of, report_folder_of};
 use twin::report::folder::ReportFolder;
 use twin::run::frames::Case;
 use twin::run::text::{run_text, Detail};
@@ -80,4 +82,27 @@ fn the_figures_of_each_stint_are_those_in_the_text_of_the_league_evening() {
         let stint = ReportFolder::of(&file("league", "config.bin"), [file("league", name)]);
         assert_eq!(stint.report(Flaw::None), expected.as_bytes(), "{name}");
     }
+}
+
+/// No rule: the readable text of access queries.
+#[test]
+fn the_text_of_the_regions_makes_its_files() {
+    let folder = PathBuf::from(env!("CARGO_MANIFEST_DIR")).join("../examples/regions");
+    let text = String::from_utf8(file("regions", "run.txt")).expect("a text");
+    assert_eq!(access_folder_of(&text), Ok(AccessFolder::read(&folder)));
+    let config = read_image(&file("regions", "config.bin"), Flaw::None).expect("accepted");
+    assert_eq!((config.vm_count, config.region_count), (3, 6));
+}
+
+/// H6, H8 to H10, N22, N23: the answers to the queries, and those that the comments of the text give.
+#[test]
+fn the_files_of_the_regions_make_their_expected_answers() {
+    let files = AccessFolder::of(&file("regions", "config.bin"), &file("regions", "queries.bin"));
+    let answers = String::from_utf8(files.answers(Flaw::None)).expect("ascii");
+    assert_eq!(answers.as_bytes(), file("regions", "expected-access"));
+    let text = String::from_utf8(file("regions", "run.txt")).expect("a text");
+    let queries = text.lines().filter(|line| line.starts_with("query "));
+    let told: Vec<&str> = queries.filter_map(|line| line.split(['#', ':']).nth(1)).map(str::trim).collect();
+    assert_eq!(told, answers.lines().collect::<Vec<_>>());
+    assert_eq!((told.len(), told.iter().filter(|answer| **answer == "yes").count()), (15, 6));
 }

@@ -2,12 +2,13 @@
 
 mod common;
 
-use common::worked_case;
+use common::{region, with_regions, worked_case};
 use twin::core::config::Config;
 use twin::core::flaw::Flaw;
 use twin::generate::case::change_bytes;
 use twin::generate::random::Random;
 use twin::image::read::{read_image, ImageFault};
+use twin::image::write::image_bytes;
 
 fn read(image: &[u8]) -> Result<Config, ImageFault> {
     read_image(image, Flaw::None)
@@ -35,7 +36,7 @@ fn with_slots(count: usize, tail: &[u8]) -> Vec<u8> {
     image
 }
 
-/// An image with as many VMs, slots and ticks as there can be.
+/// An image without regions, with as many VMs, slots and ticks as there can be.
 fn longest() -> Vec<u8> {
     let mut image = vec![1, 8, 16];
     for vm in 0..8 {
@@ -146,9 +147,9 @@ fn fault_28_is_at_the_first_byte_behind_the_end() {
     }
 }
 
-/// S1 to S4, S9, I3: every size at its greatest.
+/// S1 to S4, I3, I15: every size at its greatest, but no region.
 #[test]
-fn the_longest_image_has_332_bytes() {
+fn the_longest_image_without_regions_has_332_bytes() {
     let image = longest();
     assert_eq!(image.len(), 332);
     let config = read(&image).expect("legal");
@@ -157,9 +158,9 @@ fn the_longest_image_has_332_bytes() {
     assert!(config.legal());
 }
 
-/// I14: bytes beyond 332 are judged as those before them, and none behind a 65th slot is.
+/// I7, I14: bytes behind 64 slots are judged as those before them, and none behind a 65th slot is.
 #[test]
-fn bytes_beyond_the_longest_image_change_nothing() {
+fn bytes_behind_64_slots_change_nothing() {
     let image = longest();
     let slots = &image[..331];
     assert_eq!(fault(&[slots, &[3, 0, 1]].concat()), (20, 331));
@@ -175,12 +176,13 @@ fn bytes_beyond_the_longest_image_change_nothing() {
 #[test]
 fn the_first_fault_of_any_bytes_counts() {
     let mut random = Random::of_case(5, 5);
-    let mut faults = [0; 9];
-    for _ in 0..3_000 {
-        let mut image = worked_case().image;
+    let mut faults = [0; 17];
+    for _ in 0..4_000 {
+        let regions = [region(0, 2, 0x2000, 0x2fff), region(1, 1, 0x2000, 0x2fff)];
+        let mut image = image_bytes(&with_regions(&regions), Flaw::None);
         let changes = random.between(0, 3);
         change_bytes(&mut random, &mut image, changes);
-        let longer = [&image[..], &random.bytes(350)].concat();
+        let longer = [&image[..], &random.bytes(1_100)].concat();
         match read(&image) {
             Ok(config) => {
                 assert!(config.legal());
@@ -193,5 +195,5 @@ fn the_first_fault_of_any_bytes_counts() {
             }
         }
     }
-    assert!(faults.iter().filter(|count| **count > 0).count() > 6, "{faults:?}");
+    assert!(faults.iter().filter(|count| **count > 0).count() > 10, "{faults:?}");
 }

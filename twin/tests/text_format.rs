@@ -54,6 +54,18 @@ fn comments_spaces_and_both_kinds_of_numbers() {
     assert_eq!(case.log, [0x11, 0x10, 0x10, 0, 0]);
 }
 
+/// I15: a region as a line, both ways.
+#[test]
+fn a_region_is_one_line() {
+    let line = "region vm 0 permission 2 start 0x20000000 last 0x20000fff\n";
+    let record = [5, 0, 2, 0, 0, 0, 0x20, 0xff, 0x0f, 0, 0x20];
+    let case = Case { image: record.to_vec(), log: Vec::new() };
+    assert_eq!(text_of(&case), format!("{line}\nlog\n"));
+    assert_eq!(case_of(line), Ok(case));
+    let decimal = case_of("region vm 255 permission 0 start 4294967295 last 0x1").expect("a good text");
+    assert_eq!(decimal.image, [5, 255, 0, 255, 255, 255, 255, 1, 0, 0, 0]);
+}
+
 /// No rule: the readable text keeps every byte.
 #[test]
 fn any_bytes_come_back() {
@@ -80,7 +92,7 @@ fn bytes_that_are_no_record_stand_raw() {
 #[test]
 fn errors_name_the_line_and_the_matter() {
     let wrong = [
-        ("end\nstart\n", 2, "'start' is not known here; expected core, vm, slot, end, raw or log"),
+        ("end\nstart\n", 2, "'start' is not known here; expected core, vm, region, slot, end, raw or log"),
         ("log\n\nlog", 3, "'log' is not known here"),
         ("core vms 2", 1, "the line ends where 'queue' should stand"),
         ("core queue 2", 1, "'queue' stands where 'vms' should"),
@@ -90,6 +102,12 @@ fn errors_name_the_line_and_the_matter() {
         ("slot 0 ticks 1", 1, "'0' is not known here; expected 'vm NUMBER' or 'spare'"),
         ("slot", 1, "the line ends where 'vm NUMBER' or 'spare' should stand"),
         ("end end", 1, "'end' stands behind the end of the record"),
+        ("region vm 0 permission 2 start 0", 1, "the line ends where 'last' should stand"),
+        ("region vm 256 permission 2 start 0 last 0", 1, "256 after 'vm' does not fit in 8 bits"),
+        ("region vm 0 permission 0x100 start 0 last 0", 1, "0x100 after 'permission' does not fit in 8 bits"),
+        ("region vm 0 permission 1 start 0 last 4294967296", 1, "after 'last' does not fit in 32 bits"),
+        ("region vm 0 start 0 last 0", 1, "'start' stands where 'permission' should"),
+        ("log\nregion vm 0 permission 1 start 0 last 0", 2, "'region' is not known here; expected start"),
         ("log\ntick", 2, "the number after 'tick' is missing"),
         ("log\ntick 0x", 2, "'0x' after 'tick' is not a number"),
         ("log\ntick -1", 2, "'-1' after 'tick' is not a number"),

@@ -13,7 +13,7 @@ use native.Mathlib.Decide.{decLt, ℕ-discrete}
 use native.Mathlib.Numerals.{add-one}
 use native.Mathlib.Omega.{arith}
 use Rattle.basis.specs.Choice.{both, either, pick}
-use Rattle.basis.specs.Count.{every, some, upTo}
+use Rattle.basis.specs.Count.{every, howMany, some, upTo}
 
 -- what turns a test of the code into the test of a definition
 pub ruleset tests = (lt-ltb, le-ltb, le-leb, lt-leb, eq-eqb, ne-eqb)
@@ -71,6 +71,18 @@ eqb-swap a b =
       | yes e ↦ eq-eqb a b e ∙ sym (eq-eqb b a (sym e))
       | no e ↦ ne-eqb a b e ∙ sym (ne-eqb b a (λ z. e (sym z)))
     ]
+
+pub both-swap : (a b : Bool) → both a b ≡ both b a
+both-swap true true = refl
+both-swap true false = refl
+both-swap false true = refl
+both-swap false false = refl
+
+-- two tests of which each holds where the other does
+pub same-test : (a b : Bool) → (a ≡ true → b ≡ true) → (b ≡ true → a ≡ true) → a ≡ b
+same-test true b f g = sym (f refl)
+same-test false true f g = g refl
+same-test false false f g = refl
 
 -- a second test that is known
 pub both-yes : (b : Bool) → both b true ≡ b
@@ -169,6 +181,28 @@ module _ (p : ℕ → Bool) where
       go true f = false-true (sym e ∙ every-is n f k h)
       go false f = refl
 
+-- a loop that counts
+module _ (p : ℕ → Bool) where
+  pub count-none : (x : ℕ) → x ≡ 0 → x ≡ howMany p 0
+  unfolding howMany
+  count-none x e = e
+
+  pub count-more : (n x y : ℕ) → x ≡ howMany p n → y ≡ x + pick (p n) 1 0 → y ≡ howMany p (n + 1)
+  unfolding howMany
+  count-more n x y e f = rw (add-one, ← e) (f ∙ go (p n))
+    where
+      go : (b : Bool) → x + pick b 1 0 ≡ pick b (suc x) x
+      go true = omega arith
+      go false = omega arith
+
+  pub count-end : (n m x : ℕ) → x ≡ howMany p n → n ≡ m → x ≡ howMany p m
+  count-end n m x e f = rw (← f) e
+
+  pub count-most : (n : ℕ) → howMany p n ≤ n
+  unfolding howMany
+  count-most zero = omega arith
+  count-most (suc n) = pick-case (λ x. x ≤ suc n) (p n) (suc (howMany p n)) (howMany p n) (λ e. omega (arith, count-most n)) (λ e. omega (arith, count-most n))
+
 -- two tests that answer alike
 pub every-same : (p q : ℕ → Bool) → ((k : ℕ) → p k ≡ q k) → (n : ℕ) → every p n ≡ every q n
 unfolding every
@@ -217,4 +251,4 @@ some-below p q (suc n) h = rw (h n (omega arith), some-below p q n (λ k l. h k 
 
 pub ruleset picks = (ways, pick-true, pick-false)
 
-pub ruleset turns = (ways, every-none, every-more, some-none, some-more, upTo-none, upTo-more)
+pub ruleset turns = (ways, every-none, every-more, some-none, some-more, count-none, count-more, upTo-none, upTo-more)

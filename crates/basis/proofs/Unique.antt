@@ -28,6 +28,10 @@ use Rattle.basis.proofs.tests.both.Kinds as both-kinds
 use Rattle.basis.proofs.tests.both.Reads as both-reads
 use Rattle.basis.proofs.tests.either.Kinds as either-kinds
 use Rattle.basis.proofs.tests.either.Reads as either-reads
+use Rattle.basis.proofs.tests.fault.Kinds as fault-kinds
+use Rattle.basis.proofs.tests.fault.Reads as fault-reads
+use Rattle.basis.proofs.tests.fault32.Kinds as fault32-kinds
+use Rattle.basis.proofs.tests.fault32.Reads as fault32-reads
 
 -- for the same arguments, no two answers; `Post` is the contract as the source has it
 abbrev pub OneAnswer : (n : ℕ) (ps : List (PK n)) (r : RK n) → Out n ps r → Type 0
@@ -38,6 +42,12 @@ both-one κs a x y s t p q = p ∙ sym q
 
 pub either-one : OneAnswer 0 either-kinds.ps either-kinds.r either-reads.Post
 either-one κs a x y s t p q = p ∙ sym q
+
+pub fault-one : OneAnswer 0 fault-kinds.ps fault-kinds.r fault-reads.Post
+fault-one κs a x y s t p q = p ∙ sym q
+
+pub fault32-one : OneAnswer 0 fault32-kinds.ps fault32-kinds.r fault32-reads.Post
+fault32-one κs a x y s t p q = p ∙ sym q
 
 pub byte-at-one : OneAnswer 1 byte-at-kinds.ps byte-at-kinds.r byte-at-reads.Post
 byte-at-one κs a x y s t p q = p ∙ sym q

@@ -2,7 +2,7 @@
 use Prim.Native.Nat.{ℕ, zero, suc}
 use mathlib.Core.Bool.{Bool, true, false}
 use mathlib.Core.List.{List, [], _++_}
-use Rattle.basis.specs.Choice.{both, either}
+use Rattle.basis.specs.Choice.{both, either, pick}
 
 -- p holds of each number below n
 unfoldable pub every : (ℕ → Bool) → ℕ → Bool
@@ -13,6 +13,11 @@ every p (suc n) = both (p n) (every p n)
 unfoldable pub some : (ℕ → Bool) → ℕ → Bool
 some p zero = false
 some p (suc n) = either (p n) (some p n)
+
+-- how many numbers below n there are of which p holds
+unfoldable pub howMany : (ℕ → Bool) → ℕ → ℕ
+howMany p zero = zero
+howMany p (suc n) = pick (p n) (suc (howMany p n)) (howMany p n)
 
 -- a after f 0, f 1, .. f (n - 1), in this order
 unfoldable pub upTo : {A : Type 0} → (ℕ → A → A) → A → ℕ → A

@@ -1,4 +1,5 @@
 pub mod Bits
+pub mod Bounds
 pub mod Choice
 pub mod Count
 pub mod Buffer

@@ -9,13 +9,14 @@ use mathlib.Core.Path.{ap, refl, sym, _∙_, _≡_}
 use native.Mathlib.Decide.{decLt}
 use native.Mathlib.Omega.{arith}
 use Rattle.basis.proofs.Laws.{both-assoc, both-no, both-yes, every-same}
+use Rattle.basis.specs.Bounds.{within}
 use Rattle.basis.specs.Choice.{both, either}
 use Rattle.basis.specs.Count.{every}
 use Rattle.basis.specs.Nobody.{nobody}
 use Rattle.checks.specs.Sound.{nothingFrom, readyOf, soundFrom}
 use Rattle.checks.specs.Standings.{noneIn, readyIn}
 use Rattle.config.proofs.Legality.{legal-is}
-use Rattle.config.specs.Sizes.{durationAt, isSpare, legal, ownerAt, within}
+use Rattle.config.specs.Sizes.{durationAt, isSpare, legal, ownerAt}
 use Rattle.config.specs.declared.Config.{Config}
 use Rattle.guest.specs.Record.{fresh, lastStanding, standingKnown}
 use Rattle.guest.specs.declared.Vm.{Vm}

@@ -4,10 +4,11 @@ use lib.Dec.{eqb, leb, ltb}
 use lib.ListN.{getD}
 use mathlib.Core.Bool.{Bool, not}
 use mathlib.Core.List.{List}
+use Rattle.basis.specs.Bounds.{within}
 use Rattle.basis.specs.Choice.{both, either}
 use Rattle.basis.specs.Count.{every}
 use Rattle.basis.specs.Nobody.{nobody}
-use Rattle.config.specs.Sizes.{durationAt, isSpare, legal, ownerAt, within}
+use Rattle.config.specs.Sizes.{durationAt, isSpare, legal, ownerAt}
 use Rattle.config.specs.declared.Config.{Config}
 use Rattle.guest.specs.Record.{fresh, isReady, standingKnown}
 use Rattle.guest.specs.declared.Vm.{Vm}

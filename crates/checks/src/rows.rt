@@ -4,9 +4,9 @@ use table::Clock;
 ghost use lib.Dec.{eqb, leb, ltb};
 ghost use mathlib.Core.Bool.{not};
 ghost use mathlib.Core.Path.{_≡_};
+ghost use Rattle.basis.specs.Bounds.{within};
 ghost use Rattle.basis.specs.Choice.{pick};
 ghost use Rattle.basis.specs.Nobody.{nobody};
-ghost use Rattle.config.specs.Sizes.{within};
 ghost use Rattle.guest.specs.Write.{isField};
 
 // Start.

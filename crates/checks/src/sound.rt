@@ -1,5 +1,6 @@
 // The test of soundness (W1 to W12) over the parts of a state, and the tests that it joins: of the queue, the clock, the runner, and the standings of the eight VMs.
 use basis::tests::both;
+use basis::tests::fault;
 use config::Config;
 use guest::Vm;
 use queue::Queue;
@@ -9,14 +10,16 @@ ghost use lib.Dec.{eqb, leb, ltb};
 ghost use lib.ListN.{getD};
 ghost use mathlib.Core.Bool.{not};
 ghost use mathlib.Core.Path.{_≡_};
-ghost use Rattle.basis.specs.Choice.{both, either, pick};
+ghost use Rattle.basis.specs.Bounds.{within};
+ghost use Rattle.basis.specs.Choice.{both, either};
 ghost use Rattle.basis.specs.Count.{every};
 ghost use Rattle.basis.specs.Nobody.{nobody};
 ghost use Rattle.checks.specs.Sound.{soundFrom};
 ghost use Rattle.checks.specs.Standings.{noneIn, readyIn};
-ghost use Rattle.config.specs.Sizes.{configOf, isSpare, within};
+ghost use Rattle.config.specs.Sizes.{configOf, isSpare};
 ghost use Rattle.guest.specs.Record.{lastStanding};
 ghost use Rattle.queue.specs.Entries.{paddedOf};
+ghost use Rattle.regions.specs.Rules.{listed};
 ghost use Rattle.table.specs.Position.{hasTicked, isStarted};
 
 // W1 to W12 of the parts of a state; the test of the configuration, the longest, comes last.
@@ -32,8 +35,13 @@ pub fn parts_sound(
     handlers: &[u32; 8],
     owners: &[u8; 64],
     durations: &[u16; 64],
+    held: u8,
+    holders: &[u8; 64],
+    permissions: &[u8; 64],
+    starts: &[u32; 64],
+    lasts: &[u32; 64],
 ) -> bool
-    ensures { λ r. ⌜ r ≡ soundFrom (configOf count room slots (now (entries .entry)) (now (handlers .entry)) (now (owners .entry)) (now (durations .entry))) clock running queue vms ⌝ }
+    ensures { λ r. ⌜ r ≡ soundFrom (configOf count room slots (now (entries .entry)) (now (handlers .entry)) (now (owners .entry)) (now (durations .entry)) (listed held (now (holders .entry)) (now (permissions .entry)) (now (starts .entry)) (now (lasts .entry)))) clock running queue vms ⌝ }
 {
     let rest = vms::rest_fresh(vms, count);
     let standings = vms::standings(vms);
@@ -45,7 +53,20 @@ pub fn parts_sound(
     let runs = runner_sound(running, owner, is_ready(&standings, running));
     let known = numbers_known(clock, &standings);
     if all(rest, queued, begun, placed, runs, known) {
-        config::parts_legal(count, room, slots, entries, handlers, owners, durations)
+        config::parts_legal(
+            count,
+            room,
+            slots,
+            entries,
+            handlers,
+            owners,
+            durations,
+            held,
+            holders,
+            permissions,
+            starts,
+            lasts,
+        )
     } else {
         false
     }
@@ -176,13 +197,6 @@ fn standings_known(standings: &[u8; 8]) -> bool
         k = k + 1;
     }
     bits == 0
-}
-
-// A test as a bit, so that many are joined as one number.
-fn fault(passed: bool) -> u8
-    ensures { λ r. ⌜ r ≡ pick passed 0 1 ⌝ }
-{
-    if passed { 0 } else { 1 }
 }
 
 // All of them.

@@ -1,20 +1,21 @@
--- The test `legal` says what the record `Legal` says: S1 to S7 as facts about every place.
-use Prim.Native.Nat.{suc, zero, ℕ, _+_, _<_, _≤_}
+-- The test `legal` says what the record `Legal` says: S1 to S7 and H1 to H6 as facts about every place.
+use Prim.Native.Nat.{suc, zero, ℕ, _<_, _≤_}
 use borrow.Author.Tests.{eq-eqb, eqb-false, eqb-true, le-leb, le-ltb, leb-true, lt-ltb, ltb-true, ne-eqb}
-use lib.Bits.{bitOr}
 use lib.Dec.{eqb, leb, ltb}
 use mathlib.Core.Bool.{Bool, false, true}
 use mathlib.Core.Logic.{inl, inr, _⊎_, ⊎-elim}
 use mathlib.Core.Path.{refl, sym, _∙_, _≡_}
-use native.Mathlib.Decide.{decLt}
-use native.Mathlib.Omega.{arith}
-use Rattle.basis.proofs.Laws.{both-left, both-of, both-right, either-is, either-left, either-right, every-is, every-more, every-of, or-none, pick-case, some-is, some-of}
+use Rattle.basis.proofs.Bounds.{empty-is, empty-of, within-is, within-of}
+use Rattle.basis.proofs.Laws.{both-left, both-of, both-right, either-is, either-left, either-right, every-is, every-of, pick-case, some-is, some-of}
+use Rattle.basis.specs.Bounds.{within}
 use Rattle.basis.specs.Choice.{both, either, pick}
 use Rattle.basis.specs.Count.{every}
 use Rattle.basis.specs.Nobody.{nobody}
 use Rattle.config.specs.Places.{placesFit}
-use Rattle.config.specs.Sizes.{Legal, durationAt, durationsFit, emptyPast, entryAt, handlerAt, hasSlot, lasts, legal, names, ownerAt, ownersFit, roomFits, slotsFit, slotsRest, vmsFit, vmsRest, vmsServed, within}
+use Rattle.config.specs.Sizes.{Legal, durationAt, durationsFit, entryAt, handlerAt, hasSlot, lasts, legal, names, ownerAt, ownersFit, roomFits, slotsFit, slotsRest, vmsFit, vmsRest, vmsServed}
 use Rattle.config.specs.declared.Config.{Config}
+use Rattle.regions.proofs.Lawful.{lawful-is, lawful-of}
+use Rattle.regions.specs.Rules.{lawful}
 
 -- two rules about each slot are one rule about each slot
 every-both : (p q : ℕ → Bool) (n : ℕ) → both (every p n) (every q n) ≡ every (λ k. both (p k) (q k)) n
@@ -31,23 +32,24 @@ every-both p q (suc n) = go (p n) (q n) (every p n) (every q n) (every-both p q 
 -- the counts first, then the places: in this order the code tests what the definition says
 pub legal-law : (c : Config) (a b : Bool)
     → a ≡ both (vmsFit c) (both (roomFits c) (slotsFit c))
-    → b ≡ placesFit (c .count) (c .slots) (c .entries) (c .handlers) (c .owners) (c .durations)
+    → b ≡ both (lawful (c .count) (c .regions)) (placesFit (c .count) (c .slots) (c .entries) (c .handlers) (c .owners) (c .durations))
     → both a b ≡ legal c
 unfolding legal durationsFit ownersFit vmsServed hasSlot vmsRest slotsRest placesFit
 legal-law c a b e f =
     rw (e, f, ← every-both (λ k. lasts (ownerAt c k) (durationAt c k)) (λ k. names (c .count) (ownerAt c k)) (c .slots))
-    (go (vmsFit c) (roomFits c) (slotsFit c) (durationsFit c) (ownersFit c) (both (vmsServed c) (both (vmsRest c) (slotsRest c))))
+    (go (vmsFit c) (roomFits c) (slotsFit c) (lawful (c .count) (c .regions)) (durationsFit c) (ownersFit c) (both (vmsServed c) (both (vmsRest c) (slotsRest c))))
   where
-    go : (x y z u v w : Bool) → both (both x (both y z)) (both (both u v) w) ≡ both x (both y (both z (both u (both v w))))
-    go false y z u v w = refl
-    go true false z u v w = refl
-    go true true false u v w = refl
-    go true true true false v w = refl
-    go true true true true v w = refl
+    go : (x y z l u v w : Bool) → both (both x (both y z)) (both l (both (both u v) w)) ≡ both x (both y (both z (both l (both u (both v w)))))
+    go false y z l u v w = refl
+    go true false z l u v w = refl
+    go true true false l u v w = refl
+    go true true true false u v w = refl
+    go true true true true false v w = refl
+    go true true true true true v w = refl
 
 pub legal-both : (c : Config) (a b : Bool)
     → a ≡ both (vmsFit c) (both (roomFits c) (slotsFit c))
-    → b ≡ placesFit (c .count) (c .slots) (c .entries) (c .handlers) (c .owners) (c .durations)
+    → b ≡ both (lawful (c .count) (c .regions)) (placesFit (c .count) (c .slots) (c .entries) (c .handlers) (c .owners) (c .durations))
     → a ≡ true → b ≡ legal c
 legal-both c a b e f t = rw t at (legal-law c a b e f)
 
@@ -63,13 +65,6 @@ count-some count room slots a e t = leb-true 1 count (both-left (leb 1 count) _ 
 
 pub count-8 : (count room slots : ℕ) (a : Bool) → a ≡ both (within 1 8 count) (both (leb room 16) (within 1 64 slots)) → a ≡ true → count ≤ 8
 count-8 count room slots a e t = leb-true count 8 (both-right (leb 1 count) _ (both-left (within 1 8 count) _ (sym e ∙ t)))
-
--- at least a and at most b
-pub within-is : (a b n : ℕ) → within a b n ≡ true → (a ≤ n) × (n ≤ b)
-within-is a b n e = (leb-true a n (both-left (leb a n) (leb n b) e), leb-true n b (both-right (leb a n) (leb n b) e))
-
-pub within-of : (a b n : ℕ) → a ≤ n → n ≤ b → within a b n ≡ true
-within-of a b n h l = both-of (leb a n) (leb n b) (le-leb a n h) (le-leb n b l)
 
 lasts-spare : (o t : ℕ) → lasts o t ≡ true → o ≡ nobody → t ≡ 1
 lasts-spare o t e s = eqb-true t 1 (rw (eq-eqb o nobody s) at e)
@@ -89,23 +84,12 @@ names-is n o e = ⊎-elim (λ h. inl (eqb-true o nobody h)) (λ h. inr (ltb-true
 names-of : (n o : ℕ) → (o ≡ nobody) ⊎ (o < n) → names n o ≡ true
 names-of n o = ⊎-elim (λ h. either-left (eqb o nobody) (ltb o n) (eq-eqb o nobody h)) (λ h. either-right (eqb o nobody) (ltb o n) (lt-ltb o n h))
 
-empty-is : (n k x y : ℕ) → emptyPast n k x y ≡ true → n ≤ k → (x ≡ 0) × (y ≡ 0)
-empty-is n k x y e h =
-    let f = rw (le-ltb k n h) at e in
-    (eqb-true x 0 (both-left (eqb x 0) (eqb y 0) f), eqb-true y 0 (both-right (eqb x 0) (eqb y 0) f))
-
-empty-of : (n k x y : ℕ) → (n ≤ k → (x ≡ 0) × (y ≡ 0)) → emptyPast n k x y ≡ true
-empty-of n k x y h =
-    elim (decLt k n) [
-      | yes l ↦ either-left (ltb k n) _ (lt-ltb k n l)
-      | no l ↦ (let e = h (omega arith) in either-right (ltb k n) _ (both-of (eqb x 0) (eqb y 0) (eq-eqb x 0 (e .0)) (eq-eqb y 0 (e .1))))
-    ]
-
 -- the rules that the test joins
 record Rules (c : Config) : Type 0 where
   vms : vmsFit c ≡ true
   queue : roomFits c ≡ true
   table : slotsFit c ≡ true
+  regions : lawful (c .count) (c .regions) ≡ true
   durations : durationsFit c ≡ true
   owners : ownersFit c ≡ true
   served : vmsServed c ≡ true
@@ -118,21 +102,23 @@ rules-is c e =
     let e1 = both-right (vmsFit c) _ e in
     let e2 = both-right (roomFits c) _ e1 in
     let e3 = both-right (slotsFit c) _ e2 in
-    let e4 = both-right (durationsFit c) _ e3 in
-    let e5 = both-right (ownersFit c) _ e4 in
-    let e6 = both-right (vmsServed c) _ e5 in
+    let e4 = both-right (lawful (c .count) (c .regions)) _ e3 in
+    let e5 = both-right (durationsFit c) _ e4 in
+    let e6 = both-right (ownersFit c) _ e5 in
+    let e7 = both-right (vmsServed c) _ e6 in
     record {
       vms = both-left (vmsFit c) _ e;
       queue = both-left (roomFits c) _ e1;
       table = both-left (slotsFit c) _ e2;
-      durations = both-left (durationsFit c) _ e3;
-      owners = both-left (ownersFit c) _ e4;
-      served = both-left (vmsServed c) _ e5;
-      vms-empty = both-left (vmsRest c) _ e6;
-      slots-empty = both-right (vmsRest c) _ e6;
+      regions = both-left (lawful (c .count) (c .regions)) _ e3;
+      durations = both-left (durationsFit c) _ e4;
+      owners = both-left (ownersFit c) _ e5;
+      served = both-left (vmsServed c) _ e6;
+      vms-empty = both-left (vmsRest c) _ e7;
+      slots-empty = both-right (vmsRest c) _ e7;
     }
 
--- S1 to S7: a configuration that passes the test keeps the rules
+-- S1 to S7, H1 to H6: a configuration that passes the test keeps the rules
 pub legal-is : (c : Config) → legal c ≡ true → Legal c
 unfolding durationsFit ownersFit vmsServed hasSlot vmsRest slotsRest
 legal-is c e =
@@ -146,35 +132,22 @@ legal-is c e =
       spares = λ k h. lasts-spare (ownerAt c k) (durationAt c k) (long k h);
       named = λ k h. lasts-named (ownerAt c k) (durationAt c k) (long k h);
       owned = λ k h. names-is (c .count) (ownerAt c k) (own k h);
+      regions = lawful-is (c .count) (c .regions) (r .regions);
       served = λ v h. (let s = some-is _ (c .slots) (every-is _ (c .count) (r .served) v h) in (s .0, s .1, eqb-true (ownerAt c (s .0)) v (s .2)));
       vms-empty = λ k h l. empty-is (c .count) k (entryAt c k) (handlerAt c k) (every-is _ 8 (r .vms-empty) k l) h;
       slots-empty = λ k h l. empty-is (c .slots) k (ownerAt c k) (durationAt c k) (every-is _ 64 (r .slots-empty) k l) h;
     }
 
--- S1 to S7: and a configuration that keeps the rules passes it
+-- S1 to S7, H1 to H6: and a configuration that keeps the rules passes it
 pub legal-of : (c : Config) → Legal c → legal c ≡ true
 unfolding legal durationsFit ownersFit vmsServed hasSlot vmsRest slotsRest
 legal-of c l =
     both-of (vmsFit c) _ (within-of 1 8 (c .count) (l .vms .0) (l .vms .1))
     (both-of (roomFits c) _ (le-leb (c .room) 16 (l .queue))
     (both-of (slotsFit c) _ (within-of 1 64 (c .slots) (l .table .0) (l .table .1))
+    (both-of (lawful (c .count) (c .regions)) _ (lawful-of (c .count) (c .regions) (l .regions))
     (both-of (durationsFit c) _ (every-of _ (c .slots) (λ k h. lasts-of (ownerAt c k) (durationAt c k) (l .spares k h) (l .named k h)))
     (both-of (ownersFit c) _ (every-of _ (c .slots) (λ k h. names-of (c .count) (ownerAt c k) (l .owned k h)))
     (both-of (vmsServed c) _ (every-of _ (c .count) (λ v h. (let s = l .served v h in some-of _ (c .slots) (s .0) (s .1) (eq-eqb (ownerAt c (s .0)) v (s .2)))))
     (both-of (vmsRest c) _ (every-of _ 8 (λ k h. empty-of (c .count) k (entryAt c k) (handlerAt c k) (λ m. l .vms-empty k m h)))
-    (every-of _ 64 (λ k h. empty-of (c .slots) k (ownerAt c k) (durationAt c k) (λ m. l .slots-empty k m h)))))))))
-
-both-swap : (a b : Bool) → both a b ≡ both b a
-both-swap true true = refl
-both-swap true false = refl
-both-swap false true = refl
-both-swap false false = refl
-
--- a turn of the loops that join the places past the counts
-pub past-more : (p : ℕ → Bool) (n k a b x bits y : ℕ) → p k ≡ emptyPast n k a b → eqb bits 0 ≡ every p k → x ≡ pick (ltb k n) 0 (bitOr a b) → y ≡ bitOr bits x → eqb y 0 ≡ every p (k + 1)
-past-more p n k a b x bits y h e f g =
-    every-more p k (eqb bits 0) (eqb y 0) e (rw (g, h, or-none bits x, f) (go (ltb k n)))
-  where
-    go : (t : Bool) → both (eqb (pick t 0 (bitOr a b)) 0) (eqb bits 0) ≡ both (either t (both (eqb a 0) (eqb b 0))) (eqb bits 0)
-    go true = refl
-    go false = rw (or-none a b, both-swap (eqb b 0) (eqb a 0))
+    (every-of _ 64 (λ k h. empty-of (c .slots) k (ownerAt c k) (durationAt c k) (λ m. l .slots-empty k m h))))))))))

@@ -13,18 +13,14 @@ use native.Mathlib.Decide.{decLt}
 use native.Mathlib.Nat.{mod-eq-of-lt, mod-lt}
 use native.Mathlib.Omega.{arith}
 use Rattle.basis.proofs.Bits.{bit-or, bit-zero, low-full, power-bit}
-use Rattle.basis.proofs.Laws.{both-left, both-no, both-of, both-right, both-yes, either-is, either-no, every-below, every-is, every-of, every-same, false-true, fault-more, some-below, some-is, some-more, some-of}
+use Rattle.basis.proofs.Laws.{both-left, both-no, both-of, both-right, both-yes, either-is, either-no, every-below, every-is, every-of, every-same, false-true, fault-more, same-test, some-below, some-is, some-more, some-of}
 use Rattle.basis.specs.Bits.{bit}
+use Rattle.basis.specs.Bounds.{emptyPast}
 use Rattle.basis.specs.Choice.{both, either, pick}
 use Rattle.basis.specs.Count.{every, some}
 use Rattle.basis.specs.Nobody.{nobody}
 use Rattle.config.specs.Places.{NamedBy, NamedFrom, ownerFits, placeNumbers, placesFit, ticksFit}
-use Rattle.config.specs.Sizes.{emptyPast, isSpare, lasts, names, slotFits}
-
-same : (a b : Bool) → (a ≡ true → b ≡ true) → (b ≡ true → a ≡ true) → a ≡ b
-same true b f g = sym (f refl)
-same false true f g = g refl
-same false false f g = refl
+use Rattle.config.specs.Sizes.{isSpare, lasts, names, slotFits}
 
 leb-zero : (n : ℕ) → leb n 0 ≡ eqb n 0
 leb-zero n =
@@ -182,7 +178,7 @@ named-more places owners first slots k seen x y e h f g i v l =
 
 -- of all places, those in use
 used-only : (p : ℕ → Bool) (slots n : ℕ) → slots ≤ n → some (λ k. both (ltb k slots) (p k)) n ≡ some p slots
-used-only p slots n h = same _ _ to of
+used-only p slots n h = same-test _ _ to of
   where
     to : some (λ k. both (ltb k slots) (p k)) n ≡ true → some p slots ≡ true
     to e = (let x = some-is (λ k. both (ltb k slots) (p k)) n e in some-of p slots (x .0) (ltb-true (x .0) slots (both-left (ltb (x .0) slots) (p (x .0)) (x .2))) (both-right (ltb (x .0) slots) (p (x .0)) (x .2)))
@@ -202,7 +198,7 @@ few-law slots count low owners r f h e =
 
 -- the first n numbers, then m more
 every-split : (p : ℕ → Bool) (n m : ℕ) → every p (n + m) ≡ both (every p n) (every (λ v. p (n + v)) m)
-every-split p n m = same _ _ to of
+every-split p n m = same-test _ _ to of
   where
     to : every p (n + m) ≡ true → both (every p n) (every (λ v. p (n + v)) m) ≡ true
     to e = both-of _ _ (every-of p n (λ k l. every-is p (n + m) e k (omega arith))) (every-of (λ v. p (n + v)) m (λ k l. every-is p (n + m) e (n + k) (omega arith)))
@@ -304,7 +300,7 @@ module _ (count slots : ℕ) (owners durations : List ℕ) where
 
   pub unfit-law : (entries handlers : List ℕ) (fit : Bool) → fit ≡ both (every owns 64) (every ticks 64) → fit ≡ false → false ≡ placesFit count slots entries handlers owners durations
   unfolding placesFit
-  unfit-law entries handlers fit e t = same _ _ (λ i. false-true i) (λ i. sym t ∙ e ∙ holds i)
+  unfit-law entries handlers fit e t = same-test _ _ (λ i. false-true i) (λ i. sym t ∙ e ∙ holds i)
     where
       holds : both (every fits slots) (both (every (λ v. some (λ k. eqb (getD owners k 0) v) slots) count) (both (every (λ k. emptyPast count k (getD entries k 0) (getD handlers k 0)) 8) (every past 64))) ≡ true
           → both (every owns 64) (every ticks 64) ≡ true

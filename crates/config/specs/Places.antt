@@ -6,9 +6,10 @@ use mathlib.Core.Bool.{Bool}
 use mathlib.Core.List.{List, [], _∷_}
 use mathlib.Core.Path.{_≡_}
 use Rattle.basis.specs.Bits.{bit}
+use Rattle.basis.specs.Bounds.{emptyPast}
 use Rattle.basis.specs.Choice.{both, pick}
 use Rattle.basis.specs.Count.{every, some}
-use Rattle.config.specs.Sizes.{emptyPast, lasts, names, slotFits}
+use Rattle.config.specs.Sizes.{lasts, names, slotFits}
 
 -- S4 to S7
 unfoldable pub placesFit : ℕ → ℕ → List ℕ → List ℕ → List ℕ → List ℕ → Bool

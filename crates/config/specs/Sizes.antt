@@ -1,4 +1,4 @@
--- The sizes: one rule for each sentence of S1 to S7, and a legal configuration.
+-- The sizes: one rule for each sentence of S1 to S7; a legal configuration, with the rules of its regions; the access query.
 use Prim.Native.Nat.{ℕ, _<_, _≤_}
 use lib.Dec.{eqb, leb, ltb}
 use lib.ListN.{getD}
@@ -6,15 +6,19 @@ use mathlib.Core.Bool.{Bool}
 use mathlib.Core.List.{List}
 use mathlib.Core.Logic.{_⊎_}
 use mathlib.Core.Path.{_≡_}
+use Rattle.basis.specs.Bounds.{emptyPast, within}
 use Rattle.basis.specs.Choice.{both, either, pick}
 use Rattle.basis.specs.Count.{every, some}
 use Rattle.basis.specs.Nobody.{nobody}
 use Rattle.config.specs.declared.Config.{Config}
+use Rattle.regions.specs.Access.{Allowed, allowed}
+use Rattle.regions.specs.Rules.{Lawful, lawful}
+use Rattle.regions.specs.declared.Regions.{Regions}
 
 -- a configuration by its parts
-abbrev pub configOf : ℕ → ℕ → ℕ → List ℕ → List ℕ → List ℕ → List ℕ → Config
-configOf count room slots entries handlers owners durations =
-    record { count = count; room = room; slots = slots; entries = entries; handlers = handlers; owners = owners; durations = durations }
+abbrev pub configOf : ℕ → ℕ → ℕ → List ℕ → List ℕ → List ℕ → List ℕ → Regions → Config
+configOf count room slots entries handlers owners durations regions =
+    record { count = count; room = room; slots = slots; entries = entries; handlers = handlers; owners = owners; durations = durations; regions = regions }
 
 -- what stands at place k
 abbrev pub entryAt : Config → ℕ → ℕ
@@ -28,10 +32,6 @@ ownerAt c k = getD (c .owners) k 0
 
 abbrev pub durationAt : Config → ℕ → ℕ
 durationAt c k = getD (c .durations) k 0
-
--- at least a and at most b
-abbrev pub within : ℕ → ℕ → ℕ → Bool
-within a b n = both (leb a n) (leb n b)
 
 abbrev pub isSpare : ℕ → Bool
 isSpare owner = eqb owner nobody
@@ -74,27 +74,33 @@ unfoldable pub vmsServed : Config → Bool
 vmsServed c = every (hasSlot c) (c .count)
 
 -- S7: places past the counts hold zero
-abbrev pub emptyPast : ℕ → ℕ → ℕ → ℕ → Bool
-emptyPast n k x y = either (ltb k n) (both (eqb x 0) (eqb y 0))
-
 unfoldable pub vmsRest : Config → Bool
 vmsRest c = every (λ k. emptyPast (c .count) k (entryAt c k) (handlerAt c k)) 8
 
 unfoldable pub slotsRest : Config → Bool
 slotsRest c = every (λ k. emptyPast (c .slots) k (ownerAt c k) (durationAt c k)) 64
 
--- S1 to S7
+-- S1 to S7, H1 to H6
 unfoldable pub legal : Config → Bool
 legal c =
     both (vmsFit c)
     (both (roomFits c)
     (both (slotsFit c)
+    (both (lawful (c .count) (c .regions))
     (both (durationsFit c)
     (both (ownersFit c)
     (both (vmsServed c)
-    (both (vmsRest c) (slotsRest c)))))))
+    (both (vmsRest c) (slotsRest c))))))))
 
--- S1 to S7 as facts
+-- H8 to H11: the access query; an illegal configuration, an unknown VM and an unknown way are no
+unfoldable pub access : Config → ℕ → ℕ → ℕ → ℕ → Bool
+access c v address length way =
+    both (legal c)
+    (both (ltb v (c .count))
+    (both (within 1 3 way)
+    (allowed (c .regions) v address length way)))
+
+-- S1 to S7, H1 to H6 as facts
 pub record Legal (c : Config) : Type 0 where
   pub vms : (1 ≤ c .count) × (c .count ≤ 8)
   pub queue : c .room ≤ 16
@@ -102,6 +108,14 @@ pub record Legal (c : Config) : Type 0 where
   pub spares : (k : ℕ) → k < c .slots → ownerAt c k ≡ nobody → durationAt c k ≡ 1
   pub named : (k : ℕ) → k < c .slots → (ownerAt c k ≡ nobody → ⊥) → (1 ≤ durationAt c k) × (durationAt c k ≤ 1000)
   pub owned : (k : ℕ) → k < c .slots → (ownerAt c k ≡ nobody) ⊎ (ownerAt c k < c .count)
+  pub regions : Lawful (c .count) (c .regions)
   pub served : (v : ℕ) → v < c .count → (k : ℕ) × (k < c .slots) × (ownerAt c k ≡ v)
   pub vms-empty : (k : ℕ) → c .count ≤ k → k < 8 → (entryAt c k ≡ 0) × (handlerAt c k ≡ 0)
   pub slots-empty : (k : ℕ) → c .slots ≤ k → k < 64 → (ownerAt c k ≡ 0) × (durationAt c k ≡ 0)
+
+-- H8 to H11 as facts
+pub record Accessible (c : Config) (v address length way : ℕ) : Type 0 where
+  pub legal : Legal c
+  pub vm : v < c .count
+  pub asked : (1 ≤ way) × (way ≤ 3)
+  pub bytes : Allowed (c .regions) v address length way

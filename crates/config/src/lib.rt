@@ -1,14 +1,19 @@
-// What a configuration is: the limits, the struct, and the test that it keeps the rules of the sizes (S1 to S7).
+// What a configuration is: the limits, the struct, the test that it keeps the rules of sizes and regions (S1 to S7, H1 to H6), and the
+// access query (H8 to H11).
 mod numbers;
 mod places;
 
+use basis::tests::both;
+use regions::Regions;
 ghost use lib.Dec.{leb};
 ghost use mathlib.Core.Path.{_≡_};
+ghost use Rattle.basis.specs.Bounds.{within};
 ghost use Rattle.basis.specs.Choice.{both};
 ghost use Rattle.config.specs.Ranges.{Typed};
-ghost use Rattle.config.specs.Sizes.{configOf, legal, vmsServed, within};
+ghost use Rattle.config.specs.Sizes.{access, configOf, legal, vmsServed};
+ghost use Rattle.regions.specs.Rules.{listed};
 
-// A configuration. It has 8 places for VMs and 64 for slots (S7).
+// A configuration. It has 8 places for VMs, 64 for slots (S7) and 64 for regions (H1).
 #[repr(C)]
 pub struct Config {
     pub count: u8, // how many VMs
@@ -18,6 +23,7 @@ pub struct Config {
     pub handlers: [u32; 8], // each VM's pseudo-interrupt handler
     pub owners: [u8; 64], // the VM that each slot names, or SPARE
     pub durations: [u16; 64], // the ticks that each slot lasts
+    pub regions: Regions, // who may access which memory
 }
 
 impl Config {
@@ -32,7 +38,7 @@ impl Config {
 
     pub const SPARE: u8 = basis::NOBODY;
 
-    // Whether the configuration keeps S1 to S7.
+    // Whether the configuration keeps S1 to S7 and H1 to H6.
     pub fn legal(self) -> bool
         ensures { λ r. ⌜ r ≡ legal self ⌝ }
     {
@@ -40,6 +46,11 @@ impl Config {
         let handlers = self.handlers;
         let owners = self.owners;
         let durations = self.durations;
+        let regions = self.regions;
+        let holders = regions.holders;
+        let permissions = regions.permissions;
+        let starts = regions.starts;
+        let lasts = regions.lasts;
         parts_legal(
             self.count,
             self.room,
@@ -48,7 +59,30 @@ impl Config {
             &handlers,
             &owners,
             &durations,
+            regions.count,
+            &holders,
+            &permissions,
+            &starts,
+            &lasts,
         )
+    }
+
+    // The access query: whether VM v may access so many bytes from an address on, in one way (H8 to H11). A caller that knows the
+    // configuration to be legal asks its regions.
+    pub fn allows(self, v: u8, address: u32, length: u32, way: u8) -> bool
+        ensures { λ r. ⌜ r ≡ access self v address length way ⌝ }
+    {
+        if v >= self.count {
+            return false;
+        }
+        if regions::is_known(way) {
+            if self.legal() {
+                let regions = self.regions;
+                return regions.allows(v, address, length, way);
+            }
+            return false;
+        }
+        false
     }
 
     // S6: whether each VM has a slot; no table is longer than 64 slots.
@@ -70,7 +104,7 @@ pub fn typed(c: Config)
     ensures { λ _. ⌜ Typed c ⌝ }
 {}
 
-// The same test (S1 to S7) of a configuration that is lent in its parts, so that nothing is copied.
+// The same test (S1 to S7, H1 to H6) of a configuration that is lent in its parts, so that nothing is copied.
 pub fn parts_legal(
     count: u8,
     room: u8,
@@ -79,11 +113,18 @@ pub fn parts_legal(
     handlers: &[u32; 8],
     owners: &[u8; 64],
     durations: &[u16; 64],
+    held: u8,
+    holders: &[u8; 64],
+    permissions: &[u8; 64],
+    starts: &[u32; 64],
+    lasts: &[u32; 64],
 ) -> bool
-    ensures { λ r. ⌜ r ≡ legal (configOf count room slots (now (entries .entry)) (now (handlers .entry)) (now (owners .entry)) (now (durations .entry))) ⌝ }
+    ensures { λ r. ⌜ r ≡ legal (configOf count room slots (now (entries .entry)) (now (handlers .entry)) (now (owners .entry)) (now (durations .entry)) (listed held (now (holders .entry)) (now (permissions .entry)) (now (starts .entry)) (now (lasts .entry)))) ⌝ }
 {
     if counts_fit(count, room, slots) {
-        places::all_fit(count, slots, entries, handlers, owners, durations)
+        let lawful = regions::parts_lawful(count, held, holders, permissions, starts, lasts);
+        let fit = places::all_fit(count, slots, entries, handlers, owners, durations);
+        both(lawful, fit)
     } else {
         false
     }

@@ -9,10 +9,11 @@ ghost use lib.ListN.{getD};
 ghost use mathlib.Core.Bool.{true};
 ghost use mathlib.Core.Path.{_≡_};
 ghost use Rattle.basis.specs.Bits.{bit};
+ghost use Rattle.basis.specs.Bounds.{emptyPast};
 ghost use Rattle.basis.specs.Choice.{both, either, pick};
 ghost use Rattle.basis.specs.Count.{every, some};
 ghost use Rattle.config.specs.Places.{NamedBy, NamedFrom, ownerFits, placeNumbers, placesFit, ticksFit};
-ghost use Rattle.config.specs.Sizes.{emptyPast, isSpare, lasts, names};
+ghost use Rattle.config.specs.Sizes.{isSpare, lasts, names};
 
 // S4 to S7.
 pub fn all_fit(

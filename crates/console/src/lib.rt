@@ -15,7 +15,7 @@ pub fn read_file(path: &[u8], buf: &mut [u8]) -> usize
 }
 
 // Prints the run of the log `events.bin` on the image `config.bin`, both in the current folder (N1). At most 4,096 bytes of the
-// image and 65,536 of the log are read, which is more than decides: 335 of any image, 60,001 of any log.
+// image and 65,536 of the log are read, which is more than decides: 1,039 of any image, 60,001 of any log.
 pub fn run_files(states: bool) {
     let mut image = io::buffer();
     let mut log = io::large_buffer();
@@ -56,20 +56,20 @@ pub fn print_case(image: &[u8], log: &[u8], out: &mut [u8]) -> bool {
     io::write_all(1, b".\n")
 }
 
-// Prints an image that is accepted, written again from its configuration (N10). A buffer shorter than 2,048 bytes has no room for it.
+// Prints an image that is accepted, written again from its configuration (N10). A buffer shorter than 2,080 bytes has no room for it.
 fn print_again(image: &[u8], out: &mut [u8]) -> bool {
     let r = image_reader::read(image);
     if r.fault != 0 {
         return true;
     }
-    if out.len() < 2048 {
+    if out.len() < 2080 {
         return true;
     }
     let config = r.config;
-    let mut again: [u8; 332] = [0; 332];
+    let mut again: [u8; 1036] = [0; 1036];
     let w = image_writer::write(config, &mut again);
     let size = w.size;
-    if 332 < size {
+    if 1036 < size {
         return true;
     }
     let n = lines::put_image(out, &again[0..size]);

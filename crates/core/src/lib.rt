@@ -65,6 +65,11 @@ impl Core {
         let handlers = config.handlers;
         let owners = config.owners;
         let durations = config.durations;
+        let regions = config.regions;
+        let holders = regions.holders;
+        let permissions = regions.permissions;
+        let starts = regions.starts;
+        let lasts = regions.lasts;
         let vms = self.vms;
         let clock = self.clock;
         let queue = self.queue;
@@ -80,6 +85,11 @@ impl Core {
             &handlers,
             &owners,
             &durations,
+            regions.count,
+            &holders,
+            &permissions,
+            &starts,
+            &lasts,
         )
     }
 

@@ -8,10 +8,11 @@ use mathlib.Core.Logic.{inl, inr, _⊎_, ⊎-elim}
 use mathlib.Core.Path.{refl, sym, _∙_, _≡_}
 use native.Mathlib.Decide.{decLt, ℕ-discrete}
 use native.Mathlib.Omega.{arith}
+use Rattle.basis.proofs.Bounds.{within-is, within-of}
 use Rattle.basis.proofs.Laws.{both-left, both-of, both-right, either-is, either-left, either-right, every-is, every-of, false-true}
 use Rattle.basis.specs.Choice.{either}
 use Rattle.basis.specs.Nobody.{nobody}
-use Rattle.config.proofs.Legality.{legal-is, legal-of, within-is, within-of}
+use Rattle.config.proofs.Legality.{legal-is, legal-of}
 use Rattle.config.specs.Sizes.{durationAt, isSpare, legal}
 use Rattle.core.specs.Sound.{Sound, configSound, fewQueued, idleAtFirst, leftSound, noneReady, nothingBegun, numbersKnown, placesEmpty, queuedReady, restSound, runnerNamed, runnerReady, slotSound, sound, standingsKnown, startSound}
 use Rattle.core.specs.State.{Shaped, idle, ownerNow, readyAt, vmAt}

@@ -5,14 +5,14 @@ use lib.Dec.{eqb, leb, ltb}
 use mathlib.Core.Bool.{Bool, false, not, true}
 use mathlib.Core.Path.{refl, sym, _∙_, _≡_}
 use native.Mathlib.Omega.{arith}
+use Rattle.basis.proofs.Bounds.{within-is, within-of}
 use Rattle.basis.proofs.Laws.{pick-case}
+use Rattle.basis.specs.Bounds.{within}
 use Rattle.basis.specs.Choice.{both, pick}
 use Rattle.basis.specs.Nobody.{nobody}
 use Rattle.change.specs.Answers.{noNotice, noticeOf}
 use Rattle.change.specs.Changes.{calledFrom, deliveringFrom, endingFrom, failingFrom, queueingFrom, turnedAwayFrom}
 use Rattle.change.specs.declared.Change.{Change}
-use Rattle.config.proofs.Legality.{within-is, within-of}
-use Rattle.config.specs.Sizes.{within}
 use Rattle.core.specs.Changes.{answering, changedBy}
 use Rattle.core.specs.Events.{done, startCore, stepOf, tickCore, tickTurn}
 use Rattle.core.specs.Refusals.{refusalOf, refused, rowOf}

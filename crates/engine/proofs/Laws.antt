@@ -41,6 +41,7 @@ use Rattle.logic.specs.Rows.{rowFrom}
 use Rattle.queue.specs.Entries.{served}
 use Rattle.queue.specs.declared.Queue.{Queue}
 use Rattle.queue.specs.declared.Served.{Served}
+use Rattle.regions.specs.declared.Regions.{Regions}
 use Rattle.table.specs.Position.{nextClock, startedClock}
 use Rattle.table.specs.declared.Clock.{Clock}
 use Rattle.vms.specs.Records.{agedAll, startedAll}
@@ -192,8 +193,8 @@ core-is c standings words p h k = rw (h, k)
 
 -- a step by a configuration's own parts is the event on it
 pub step-is : {g : Config} {k : Counts} {standings words standings′ words′ : List ℕ} {p : Stand} {e : Event} {m : Moved} → k ≡ countsOf g
-    → Moves (configOf k (g .owners) (g .durations) (g .entries) (g .handlers)) standings words standings′ words′ p e m → leftBy g standings′ words′ m ≡ innerOf (coreOf g standings words p) e
-step-is h w = rw h at (w .same)
+    → ((r : Regions) → Moves (configOf k (g .owners) (g .durations) (g .entries) (g .handlers) r) standings words standings′ words′ p e m) → leftBy g standings′ words′ m ≡ innerOf (coreOf g standings words p) e
+step-is {g} h w = rw h at (w (g .regions) .same)
 
 -- the arm of the seven events about a VM
 pub from-two : (n : ℕ) → (n ≡ 2) ⊎ ((n ≡ 3) ⊎ ((n ≡ 4) ⊎ ((n ≡ 5) ⊎ ((n ≡ 6) ⊎ ((n ≡ 7) ⊎ (n ≡ 8)))))) → 2 ≤ n

@@ -19,6 +19,7 @@ use Rattle.engine.specs.declared.Stand.{Stand}
 use Rattle.event.specs.Kinds.{ofMaster, ofRunning}
 use Rattle.event.specs.declared.Event.{Event}
 use Rattle.guest.specs.Record.{fresh}
+use Rattle.regions.specs.declared.Regions.{Regions}
 use Rattle.table.specs.declared.Clock.{Clock}
 
 -- every event but Start and Tick
@@ -31,9 +32,10 @@ countsOf g = record { count = g .count; room = g .room; slots = g .slots }
 abbrev pub standOf : Core → Stand
 standOf c = record { clock = c .clock; running = c .running; queue = c .queue }
 
-abbrev pub configOf : Counts → List ℕ → List ℕ → List ℕ → List ℕ → Config
-configOf g owners durations entries handlers =
-    record { count = g .count; room = g .room; slots = g .slots; entries = entries; handlers = handlers; owners = owners; durations = durations }
+-- no event looks at the regions, so the engine does not have them
+abbrev pub configOf : Counts → List ℕ → List ℕ → List ℕ → List ℕ → Regions → Config
+configOf g owners durations entries handlers regions =
+    record { count = g .count; room = g .room; slots = g .slots; entries = entries; handlers = handlers; owners = owners; durations = durations; regions = regions }
 
 abbrev pub coreOf : Config → List ℕ → List ℕ → Stand → Core
 coreOf g standings words p = record { config = g; clock = p .clock; running = p .running; queue = p .queue; vms = vmsOf standings words }

@@ -15,6 +15,7 @@ ghost use mathlib.Core.Path.{_≡_};
 ghost use Rattle.config.specs.Ranges.{Sized};
 ghost use Rattle.engine.specs.Engine.{Does, Moves, Settles, aboutVm, configOf, coreOf, countsOf, refusedAt, standOf};
 ghost use Rattle.logic.specs.Changing.{placeFrom};
+ghost use Rattle.regions.specs.declared.Regions.{Regions};
 
 // The state but for the configuration and the VM records.
 pub struct Stand {
@@ -75,7 +76,7 @@ pub fn step(
     e: Event,
 ) -> Moved
     requires { ⌜ (length (now standings) ≡ 8) × (length (now words) ≡ 104) ⌝ }
-    ensures { λ r. ⌜ Moves (configOf g (now (owners .entry)) (now (durations .entry)) (now (entries .entry)) (now (handlers .entry))) (now (standings .entry)) (now (words .entry)) (now (standings .exit)) (now (words .exit)) p e r ⌝ }
+    ensures { λ r. ⌜ ((regions : Regions) → Moves (configOf g (now (owners .entry)) (now (durations .entry)) (now (entries .entry)) (now (handlers .entry)) regions) (now (standings .entry)) (now (words .entry)) (now (standings .exit)) (now (words .exit)) p e r) ⌝ }
 {
     let clock = p.clock;
     let q = p.queue;
@@ -104,7 +105,7 @@ fn tick(
     at: u32,
 ) -> Moved
     requires { ⌜ (length (now standings) ≡ 8) × (length (now words) ≡ 104) ⌝ }
-    ensures { λ r. ⌜ ((entries : List ℕ) → Does (configOf g (now (owners .entry)) (now (durations .entry)) entries (now (handlers .entry))) (now (standings .entry)) (now (words .entry)) (now (standings .exit)) (now (words .exit)) p (Event.Tick at) r) ⌝ }
+    ensures { λ r. ⌜ ((entries : List ℕ) (regions : Regions) → Does (configOf g (now (owners .entry)) (now (durations .entry)) entries (now (handlers .entry)) regions) (now (standings .entry)) (now (words .entry)) (now (standings .exit)) (now (words .exit)) p (Event.Tick at) r) ⌝ }
 {
     let q = p.queue;
     bank::save(standings, words, p.running, at);
@@ -147,7 +148,7 @@ fn settled(standings: &mut [u8], words: &mut [u32], clock: Clock, i: u8, d: Chan
 // D1, D2.
 fn start(standings: &mut [u8], words: &mut [u32], entries: &[u32], g: Counts, p: Stand) -> Moved
     requires { ⌜ (length (now standings) ≡ 8) × (length (now words) ≡ 104) ⌝ }
-    ensures { λ r. ⌜ ((owners durations handlers : List ℕ) → Does (configOf g owners durations (now (entries .entry)) handlers) (now (standings .entry)) (now (words .entry)) (now (standings .exit)) (now (words .exit)) p Event.Start r) ⌝ }
+    ensures { λ r. ⌜ ((owners durations handlers : List ℕ) (regions : Regions) → Does (configOf g owners durations (now (entries .entry)) handlers regions) (now (standings .entry)) (now (words .entry)) (now (standings .exit)) (now (words .exit)) p Event.Start r) ⌝ }
 {
     bank::start_all(standings, words, g.count, entries);
     let q = p.queue;
@@ -174,7 +175,7 @@ fn change(
     e: Event,
 ) -> Moved
     requires { ⌜ (length (now standings) ≡ 8) × (length (now words) ≡ 104) × (aboutVm e ≡ true) × (i ≡ placeFrom e (p .running)) ⌝ }
-    ensures { λ r. ⌜ ((owners durations : List ℕ) → Does (configOf g owners durations (now (entries .entry)) (now (handlers .entry))) (now (standings .entry)) (now (words .entry)) (now (standings .exit)) (now (words .exit)) p e r) ⌝ }
+    ensures { λ r. ⌜ ((owners durations : List ℕ) (regions : Regions) → Does (configOf g owners durations (now (entries .entry)) (now (handlers .entry)) regions) (now (standings .entry)) (now (words .entry)) (now (standings .exit)) (now (words .exit)) p e r) ⌝ }
 {
     let q = p.queue;
     let vm = bank::vm_at(standings, words, i);

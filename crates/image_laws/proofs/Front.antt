@@ -1,18 +1,24 @@
--- No answer depends on more than the first 335 bytes (I14).
+-- No answer depends on more than the first 1,039 bytes (I14).
 use Prim.Native.Nat.{suc, zero, ℕ, _*_, _+_, _-_, _<_, _≤_}
 use borrow.Author.Tests.{eq-eqb, le-ltb, lt-ltb, ne-eqb}
 use lib.Dec.{eqb}
 use lib.ListN.{drop, getD, length, length-drop, length-take, take}
 use lib.Seq.{ext-getD, getD-drop, getD-take}
+use mathlib.Core.Bool.{Bool}
 use mathlib.Core.List.{List}
 use mathlib.Core.Path.{ap, refl, sym, _∙_, _≡_}
 use native.Mathlib.Decide.{decLt, ℕ-discrete}
 use native.Mathlib.Omega.{arith}
+use Rattle.basis.specs.Choice.{pick}
 use Rattle.basis.specs.Numbers.{half, word}
 use Rattle.config.specs.declared.Config.{Config}
 use Rattle.image_reader.proofs.Turns.{core-passed}
-use Rattle.image_reader.specs.Reader.{begun, onward, readEnd, readImage, readSlots, readVms, withSlot, withVm}
-use Rattle.image_reader.specs.Records.{coreFault, short, slotFault, vmFault}
+use Rattle.image_reader.specs.Reader.{begun, onward, readEnd, readImage, readRegions, readSlots, readVms, withRegions, withSlot, withVm}
+use Rattle.image_reader.specs.Records.{coreFault, kindIs, regionFault, short, slotFault, vmFault}
+use Rattle.image_reader.specs.declared.Reading.{Reading}
+use Rattle.regions.specs.Beside.{withRegion}
+use Rattle.regions.specs.Rules.{none}
+use Rattle.regions.specs.declared.Regions.{Regions}
 
 drop-take : (i n : ℕ) (l : List ℕ) → drop i (take (i + n) l) ≡ take n (drop i l)
 drop-take i n l =
@@ -47,6 +53,23 @@ module _ (n : ℕ) (bs : List ℕ) where
   vm-front : 9 ≤ n → vmFault (take n bs) ≡ vmFault bs
   unfolding vmFault
   vm-front h = rw (short-front 1 n bs (omega arith), short-front 9 n bs h, getD-take n bs 0 0 (omega arith))
+
+  region-front : (vms : ℕ) (r : Regions) → 11 ≤ n → regionFault vms r (take n bs) ≡ regionFault vms r bs
+  unfolding regionFault
+  region-front vms r h =
+      rw (
+        short-front 11 n bs h,
+        getD-take n bs 1 0 (omega arith),
+        getD-take n bs 2 0 (omega arith),
+        getD-take n bs 3 0 (omega arith),
+        getD-take n bs 4 0 (omega arith),
+        getD-take n bs 5 0 (omega arith),
+        getD-take n bs 6 0 (omega arith),
+        getD-take n bs 7 0 (omega arith),
+        getD-take n bs 8 0 (omega arith),
+        getD-take n bs 9 0 (omega arith),
+        getD-take n bs 10 0 (omega arith),
+      )
 
   slot-front : (count k : ℕ) → 4 ≤ n → slotFault count k (take n bs) ≡ slotFault count k bs
   unfolding slotFault
@@ -87,11 +110,42 @@ slots-front (suc m) n bs at c h =
       g,
     )
 
+-- a region record, and what follows it
+region-one : (m : ℕ) (bs : List ℕ) (at : ℕ) (c : Config) (r : Regions)
+    → readRegions (suc m) bs at c r
+    ≡ pick (kindIs 5 bs) (onward (regionFault (c .count) r bs) at (readRegions m (drop 11 bs) (at + 11) c (withRegion r (getD bs 1 0) (getD bs 2 0) (word bs 3) (word bs 7)))) (readSlots 65 bs at (withRegions c r))
+unfolding readRegions
+region-one m bs at c r = refl
+
+same-region : (at : ℕ) (b d : Bool) (f g : ℕ) (x y v w : Reading) → b ≡ d → f ≡ g → x ≡ y → v ≡ w → pick b (onward f at x) v ≡ pick d (onward g at y) w
+same-region at b d f g x y v w i j k l = rw (i, j, k, l)
+
+same-read : (m : ℕ) (at : ℕ) (c : Config) (r : Regions) (x y : List ℕ) (a b d e f g u v : ℕ) → x ≡ y → a ≡ b → d ≡ e → f ≡ g → u ≡ v
+    → readRegions m x at c (withRegion r a d f u) ≡ readRegions m y at c (withRegion r b e g v)
+same-read m at c r x y a b d e f g u v h i j k l = rw (h, i, j, k, l)
+
+module _ (n : ℕ) (bs : List ℕ) (at : ℕ) (c : Config) (r : Regions) (h : 260 ≤ n) where
+  region-turn : (m : ℕ) (p : (q : Regions) → readRegions m (take (n - 11) (drop 11 bs)) (at + 11) c q ≡ readRegions m (drop 11 bs) (at + 11) c q)
+      → readRegions (suc m) (take n bs) at c r ≡ readRegions (suc m) bs at c r
+  region-turn m p =
+      let j : n ≡ 11 + (n - 11) = omega arith in
+      let d : drop 11 (take n bs) ≡ take (n - 11) (drop 11 bs) = ap (λ (k : ℕ). drop 11 (take k bs)) j ∙ drop-take 11 (n - 11) bs in
+      region-one m (take n bs) at c r
+      ∙ same-region at _ _ _ _ _ _ _ _ (ap (λ (x : ℕ). eqb x 5) (getD-take n bs 0 0 (omega arith))) (region-front n bs (c .count) r (omega arith))
+      (same-read m (at + 11) c r _ _ _ _ _ _ _ _ _ _ d (getD-take n bs 1 0 (omega arith)) (getD-take n bs 2 0 (omega arith)) (word-front n bs 3 (omega arith)) (word-front n bs 7 (omega arith)) ∙ p _)
+      (slots-front 65 n bs at (withRegions c r) (omega arith))
+      ∙ sym (region-one m bs at c r)
+
+regions-front : (m n : ℕ) (bs : List ℕ) (at : ℕ) (c : Config) (r : Regions) → m * 11 + 260 ≤ n → readRegions (suc m) (take n bs) at c r ≡ readRegions (suc m) bs at c r
+unfolding readRegions
+regions-front zero n bs at c r h = region-turn n bs at c r (omega arith) zero (λ q. refl)
+regions-front (suc m) n bs at c r h = region-turn n bs at c r (omega arith) (suc m) (λ q. regions-front m (n - 11) (drop 11 bs) (at + 11) c q (omega arith))
+
 vms-one : (m : ℕ) (bs : List ℕ) (at : ℕ) (c : Config) → readVms (suc m) bs at c ≡ onward (vmFault bs) at (readVms m (drop 9 bs) (at + 9) (withVm c (c .count - suc m) (word bs 1) (word bs 5)))
 unfolding readVms
 vms-one m bs at c = refl
 
-vms-none-left : (bs : List ℕ) (at : ℕ) (c : Config) → readVms 0 bs at c ≡ readSlots 65 bs at c
+vms-none-left : (bs : List ℕ) (at : ℕ) (c : Config) → readVms 0 bs at c ≡ readRegions 65 bs at c none
 unfolding readVms
 vms-none-left bs at c = refl
 
@@ -99,8 +153,8 @@ same-turn : (m : ℕ) (at : ℕ) (c : Config) (f g v w x y : ℕ) (r s : List �
     → onward f at (readVms m r (at + 9) (withVm c (c .count - suc m) v x)) ≡ onward g at (readVms m s (at + 9) (withVm c (c .count - suc m) w y))
 same-turn m at c f g v w x y r s d e h k = rw (d, e, h, k)
 
-vms-front : (m n : ℕ) (bs : List ℕ) (at : ℕ) (c : Config) → m * 9 + 260 ≤ n → readVms m (take n bs) at c ≡ readVms m bs at c
-vms-front zero n bs at c h = vms-none-left (take n bs) at c ∙ slots-front 65 n bs at c (omega arith) ∙ sym (vms-none-left bs at c)
+vms-front : (m n : ℕ) (bs : List ℕ) (at : ℕ) (c : Config) → m * 9 + 964 ≤ n → readVms m (take n bs) at c ≡ readVms m bs at c
+vms-front zero n bs at c h = vms-none-left (take n bs) at c ∙ regions-front 64 n bs at c none (omega arith) ∙ sym (vms-none-left bs at c)
 vms-front (suc m) n bs at c h =
     let j : n ≡ 9 + (n - 9) = omega arith in
     let d : drop 9 (take n bs) ≡ take (n - 9) (drop 9 bs) = ap (λ (k : ℕ). drop 9 (take k bs)) j ∙ drop-take 9 (n - 9) bs in
@@ -109,7 +163,7 @@ vms-front (suc m) n bs at c h =
     ∙ ap (onward (vmFault bs) at) (vms-front m (n - 9) (drop 9 bs) (at + 9) (withVm c (c .count - suc m) (word bs 1) (word bs 5)) (omega arith))
     ∙ sym (vms-one m bs at c)
 
-pub image-front : (n : ℕ) (bs : List ℕ) → 335 ≤ n → readImage (take n bs) ≡ readImage bs
+pub image-front : (n : ℕ) (bs : List ℕ) → 1039 ≤ n → readImage (take n bs) ≡ readImage bs
 unfolding readImage
 image-front n bs h =
     let j : n ≡ 3 + (n - 3) = omega arith in

@@ -30,7 +30,7 @@ image-read c t e = trip c t e
 pub read-image : (bs : List ℕ) (c : Config) → Bytes bs → readImage bs ≡ accepted c → image c ≡ bs
 read-image bs c y e = back-bytes bs c y e
 
--- S1 to S7: what is accepted is legal
+-- S1 to S7, H1 to H6: what is accepted is legal
 pub read-legal : (bs : List ℕ) (c : Config) → Bytes bs → readImage bs ≡ accepted c → legal c ≡ true
 read-legal bs c y e = back-legal bs c y e
 
@@ -63,20 +63,20 @@ zeros-illegal = refl
 pub read-either : (bs : List ℕ) → Bytes bs → (readImage bs .fault ≡ 0 → legal (readImage bs .config) ≡ true) × ((readImage bs .fault ≡ 0 → ⊥) → legal (readImage bs .config) ≡ false)
 read-either bs y = (λ e. read-legal bs (readImage bs .config) y (read-whole bs e), λ h. ap legal (read-zeros bs h) ∙ zeros-illegal)
 
--- S9: no image is longer than 332 bytes
-pub image-short : (c : Config) → legal c ≡ true → length (image c) ≤ 332
-image-short c e = let l = legal-is c e in omega (arith, image-length c, l .vms .1, l .table .1)
+-- S9: no image is longer than 1,036 bytes
+pub image-short : (c : Config) → legal c ≡ true → length (image c) ≤ 1036
+image-short c e = let l = legal-is c e in omega (arith, image-length c, l .vms .1, l .regions .few, l .table .1)
 
 -- S9: nor is one that is accepted
-pub read-short : (bs : List ℕ) (c : Config) → Bytes bs → readImage bs ≡ accepted c → length bs ≤ 332
+pub read-short : (bs : List ℕ) (c : Config) → Bytes bs → readImage bs ≡ accepted c → length bs ≤ 1036
 read-short bs c y e = rw (← read-image bs c y e) (image-short c (read-legal bs c y e))
 
--- I14: no answer depends on more than the first 335 bytes
-pub read-front : (bs : List ℕ) (n : ℕ) → 335 ≤ n → readImage (take n bs) ≡ readImage bs
+-- I14: no answer depends on more than the first 1,039 bytes
+pub read-front : (bs : List ℕ) (n : ℕ) → 1039 ≤ n → readImage (take n bs) ≡ readImage bs
 read-front bs n h = image-front n bs h
 
--- S9, I12: a buffer of 332 bytes takes the image of every legal configuration
-pub write-fits : (c : Config) (n : ℕ) → legal c ≡ true → 332 ≤ n → answerFor c n ≡ record { refusal = 0; size = length (image c) }
+-- S9, I12: a buffer of 1,036 bytes takes the image of every legal configuration
+pub write-fits : (c : Config) (n : ℕ) → legal c ≡ true → 1036 ≤ n → answerFor c n ≡ record { refusal = 0; size = length (image c) }
 unfolding answerFor
 write-fits c n e h = rw (e, le-ltb n (length (image c)) (omega (arith, image-short c e)))
 

@@ -1,4 +1,4 @@
--- Images with the answer that each gets, one row for each: the vectors of the rules (X1, P6 to P8) and every fault of I8.
+-- Images with the answer that each gets, one row for each: the vectors of the rules (X1, P6 to P8) and every fault of I8 but those of regions.
 use Prim.Native.Nat.{ℕ, _%_, _+_}
 use lib.ListN.{replicate, take}
 use mathlib.Core.List.{List, [], _++_, _∷_}
@@ -6,33 +6,34 @@ use Rattle.basis.specs.Count.{joined}
 use Rattle.config.specs.declared.Config.{Config}
 use Rattle.image_reader.specs.Reader.{accepted, refused}
 use Rattle.image_reader.specs.declared.Reading.{Reading}
+use Rattle.regions.specs.Rules.{none}
 
 -- an image and its answer
 pub record Row : Type 0 where
   pub bytes : List ℕ
   pub answer : Reading
 
-abbrev read-as : List ℕ → Reading → Row
+abbrev pub read-as : List ℕ → Reading → Row
 read-as bs r = record { bytes = bs; answer = r }
 
 -- l and zeros behind it, n places in all
-abbrev padded : ℕ → List ℕ → List ℕ
+abbrev pub padded : ℕ → List ℕ → List ℕ
 padded n l = take n (l ++ replicate n 0)
 
-abbrev config-of : ℕ → ℕ → ℕ → List ℕ → List ℕ → List ℕ → List ℕ → Config
-config-of count room slots es hs os ds = record { count = count; room = room; slots = slots; entries = padded 8 es; handlers = padded 8 hs; owners = padded 64 os; durations = padded 64 ds }
+abbrev pub config-of : ℕ → ℕ → ℕ → List ℕ → List ℕ → List ℕ → List ℕ → Config
+config-of count room slots es hs os ds = record { count = count; room = room; slots = slots; entries = padded 8 es; handlers = padded 8 hs; owners = padded 64 os; durations = padded 64 ds; regions = none }
 
 -- the records: a core of n VMs and a queue of q; a VM with entry 0x1000 and handler 0x1004; a slot of v for t ticks, t below 256; the end
-abbrev core : ℕ → ℕ → List ℕ
+abbrev pub core : ℕ → ℕ → List ℕ
 core n q = 1 ∷ n ∷ q ∷ []
 
-abbrev vm : List ℕ
+abbrev pub vm : List ℕ
 vm = 2 ∷ 0 ∷ 16 ∷ 0 ∷ 0 ∷ 4 ∷ 16 ∷ 0 ∷ 0 ∷ []
 
-abbrev slot : ℕ → ℕ → List ℕ
+abbrev pub slot : ℕ → ℕ → List ℕ
 slot v t = 3 ∷ v ∷ t ∷ 0 ∷ []
 
-abbrev end : List ℕ
+abbrev pub end : List ℕ
 end = 4 ∷ []
 
 -- one VM, a queue of q, and one slot of lo + 256 * hi ticks
@@ -58,7 +59,7 @@ abbrev example-config : Config
 example-config = config-of 2 1 3 (0x1000 ∷ 0x2000 ∷ []) (0x1004 ∷ 0x2004 ∷ []) (0 ∷ 1 ∷ 255 ∷ []) (2 ∷ 1 ∷ 1 ∷ [])
 
 -- eight VMs and 64 slots, the end record left out: 331 bytes
-abbrev full : List ℕ
+abbrev pub full : List ℕ
 full =
     core 8 16
     ++ (joined (λ v. 2 ∷ v ∷ 0 ∷ 0 ∷ 128 ∷ v ∷ 1 ∷ 0 ∷ 255 ∷ []) 8
@@ -71,7 +72,7 @@ full-config = config-of 8 16 64
     (0 ∷ 1 ∷ 2 ∷ 3 ∷ 4 ∷ 5 ∷ 6 ∷ 7 ∷ 0 ∷ 1 ∷ 2 ∷ 3 ∷ 4 ∷ 5 ∷ 6 ∷ 7 ∷ 0 ∷ 1 ∷ 2 ∷ 3 ∷ 4 ∷ 5 ∷ 6 ∷ 7 ∷ 0 ∷ 1 ∷ 2 ∷ 3 ∷ 4 ∷ 5 ∷ 6 ∷ 7 ∷ 0 ∷ 1 ∷ 2 ∷ 3 ∷ 4 ∷ 5 ∷ 6 ∷ 7 ∷ 0 ∷ 1 ∷ 2 ∷ 3 ∷ 4 ∷ 5 ∷ 6 ∷ 7 ∷ 0 ∷ 1 ∷ 2 ∷ 3 ∷ 4 ∷ 5 ∷ 6 ∷ 7 ∷ 0 ∷ 1 ∷ 2 ∷ 3 ∷ 4 ∷ 5 ∷ 6 ∷ 7 ∷ [])
     (1 ∷ 2 ∷ 3 ∷ 4 ∷ 5 ∷ 6 ∷ 7 ∷ 8 ∷ 9 ∷ 10 ∷ 11 ∷ 12 ∷ 13 ∷ 14 ∷ 15 ∷ 16 ∷ 17 ∷ 18 ∷ 19 ∷ 20 ∷ 21 ∷ 22 ∷ 23 ∷ 24 ∷ 25 ∷ 26 ∷ 27 ∷ 28 ∷ 29 ∷ 30 ∷ 31 ∷ 32 ∷ 33 ∷ 34 ∷ 35 ∷ 36 ∷ 37 ∷ 38 ∷ 39 ∷ 40 ∷ 41 ∷ 42 ∷ 43 ∷ 44 ∷ 45 ∷ 46 ∷ 47 ∷ 48 ∷ 49 ∷ 50 ∷ 51 ∷ 52 ∷ 53 ∷ 54 ∷ 55 ∷ 56 ∷ 57 ∷ 58 ∷ 59 ∷ 60 ∷ 61 ∷ 62 ∷ 63 ∷ 64 ∷ [])
 
--- X1, P6 to P8, S9, and every fault of I8, with the places of I13 and the orders of I9
+-- X1, P6 to P8, and every fault of I8 but those of regions, with the places of I13 and the orders of I9
 unfoldable pub rows : List Row
 rows =
     -- X1: the example, 34 bytes
@@ -84,7 +85,7 @@ rows =
     -- P8: a queue of 16, and of 17
     ∷ read-as (single 16 1 0) (accepted (single-config 16 1))
     ∷ read-as (single 17 1 0) (refused 22 0)
-    -- S9: a full image, 332 bytes
+    -- a full image without regions, 332 bytes
     ∷ read-as (full ++ end) (accepted full-config)
     -- I8: a 65th slot, whole and cut
     ∷ read-as (full ++ (slot 0 1 ++ end)) (refused 26 331)
@@ -98,8 +99,8 @@ rows =
     ∷ read-as (core 1 0 ++ vm) (refused 20 12)
     ∷ read-as (core 1 0 ++ (vm ++ slot 0 1)) (refused 20 16)
     -- I8: an unknown kind, as the first byte and as the last
-    ∷ read-as (5 ∷ []) (refused 21 0)
-    ∷ read-as (core 1 0 ++ (vm ++ (slot 0 1 ++ (5 ∷ [])))) (refused 21 16)
+    ∷ read-as (6 ∷ []) (refused 21 0)
+    ∷ read-as (core 1 0 ++ (vm ++ (slot 0 1 ++ (6 ∷ [])))) (refused 21 16)
     -- I13: a second core record, a VM record too many, a slot and an end too early
     ∷ read-as (core 1 0 ++ (core 1 0 ++ (vm ++ (slot 0 1 ++ end)))) (refused 21 3)
     ∷ read-as (core 1 0 ++ (vm ++ (vm ++ (slot 0 1 ++ end)))) (refused 21 12)

@@ -26,6 +26,7 @@ pub fn rewrite(s: &[u8], b: &mut [u8]) -> Written
 pub fn reread(c: Config, b: &mut [u8]) -> Reading
     ensures { λ r. ⌜ (r ≡ returned c (length (now (b .entry)))) × (now (b .exit) ≡ bufferAfter c (now (b .entry))) ⌝ }
 {
+    config::typed(c);
     let w = image_writer::write(c, b);
     let refusal = w.refusal;
     if refusal != 0 {

@@ -11,9 +11,12 @@ use Rattle.basis.proofs.Laws.{pick-case}
 use Rattle.basis.specs.Numbers.{half, word}
 use Rattle.config.specs.Sizes.{vmsServed}
 use Rattle.config.specs.declared.Config.{Config}
-use Rattle.image_reader.specs.Reader.{accepted, begun, noConfig, onward, readEnd, readImage, readSlots, readVms, refused, withSlot, withVm}
-use Rattle.image_reader.specs.Records.{coreFault, kindIs, slotFault, vmFault}
+use Rattle.image_reader.specs.Reader.{accepted, begun, noConfig, onward, readEnd, readImage, readRegions, readSlots, readVms, refused, withRegions, withSlot, withVm}
+use Rattle.image_reader.specs.Records.{coreFault, kindIs, regionFault, slotFault, vmFault}
 use Rattle.image_reader.specs.declared.Reading.{Reading}
+use Rattle.regions.specs.Beside.{withRegion}
+use Rattle.regions.specs.Rules.{none}
+use Rattle.regions.specs.declared.Regions.{Regions}
 
 -- fault 0 at offset 0, or another fault and zeros only
 Plain : Reading → Type 0
@@ -45,9 +48,17 @@ plain-slots (suc m) bs at c =
     (λ e. plain-end bs at c)
     (λ e. plain-onward (slotFault (c .count) (c .slots) bs) at _ (plain-slots m (drop 4 bs) (at + 4) (withSlot c (getD bs 1 0) (half bs 2))))
 
+plain-regions : (m : ℕ) (bs : List ℕ) (at : ℕ) (c : Config) (r : Regions) → Plain (readRegions m bs at c r)
+unfolding readRegions
+plain-regions zero bs at c r = plain-refused 35 at (λ z. omega arith)
+plain-regions (suc m) bs at c r =
+    pick-case Plain (kindIs 5 bs) _ _
+    (λ e. plain-onward (regionFault (c .count) r bs) at _ (plain-regions m (drop 11 bs) (at + 11) c (withRegion r (getD bs 1 0) (getD bs 2 0) (word bs 3) (word bs 7))))
+    (λ e. plain-slots 65 bs at (withRegions c r))
+
 plain-vms : (m : ℕ) (bs : List ℕ) (at : ℕ) (c : Config) → Plain (readVms m bs at c)
 unfolding readVms
-plain-vms zero bs at c = plain-slots 65 bs at c
+plain-vms zero bs at c = plain-regions 65 bs at c none
 plain-vms (suc m) bs at c = plain-onward (vmFault bs) at _ (plain-vms m (drop 9 bs) (at + 9) (withVm c (c .count - suc m) (word bs 1) (word bs 5)))
 
 plain-image : (bs : List ℕ) → Plain (readImage bs)

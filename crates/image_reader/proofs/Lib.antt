@@ -1,3 +1,4 @@
 pub mod Turns
+pub mod RegionTurns
 pub mod Answers
 pub mod Unique

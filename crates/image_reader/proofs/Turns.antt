@@ -8,15 +8,17 @@ use mathlib.Core.Bool.{Bool, false, true}
 use mathlib.Core.List.{List, [], _∷_}
 use mathlib.Core.Path.{ap, refl, sym, _∙_, _≡_}
 use native.Mathlib.Omega.{arith}
+use Rattle.basis.proofs.Bounds.{within-is}
 use Rattle.basis.proofs.Laws.{both-left, both-right}
+use Rattle.basis.specs.Bounds.{within}
 use Rattle.basis.specs.Choice.{both, pick}
 use Rattle.basis.specs.Numbers.{half, word}
-use Rattle.config.proofs.Legality.{within-is}
-use Rattle.config.specs.Sizes.{vmsServed, within}
+use Rattle.config.specs.Sizes.{vmsServed}
 use Rattle.config.specs.declared.Config.{Config}
-use Rattle.image_reader.specs.Reader.{accepted, begun, readEnd, readImage, readSlots, readVms, refused, withSlot, withVm}
+use Rattle.image_reader.specs.Reader.{accepted, begun, readEnd, readImage, readRegions, readSlots, readVms, refused, withSlot, withVm}
 use Rattle.image_reader.specs.Records.{coreFault, kindIs, ownerFault, short, slotFault, vmFault}
 use Rattle.image_reader.specs.declared.Reading.{Reading}
+use Rattle.regions.specs.Rules.{none}
 
 -- the part of a slice from a place to its end
 abbrev pub part : List ℕ → ℕ → List ℕ
@@ -201,7 +203,7 @@ module _ {s : List ℕ} {core c : Config} {at k : ℕ} (i : Vms s core c at k) (
         same = rw (w, rw (part-is s at) at y, rw (part-is s at) at z, ← drop-drop 9 at s) (sym (rw place at one) ∙ vms-opened);
       }
 
-pub vms-none : {s : List ℕ} {core c : Config} {at k : ℕ} {r : Reading} → Vms s core c at k → core .count ≤ k → r ≡ readSlots 65 (drop at s) at c
+pub vms-none : {s : List ℕ} {core c : Config} {at k : ℕ} {r : Reading} → Vms s core c at k → core .count ≤ k → r ≡ readRegions 65 (drop at s) at c none
     → r ≡ readVms (core .count) (drop 3 s) 3 core
 unfolding readVms
 vms-none {s} {core} {c} {at} {k} i l e = let j : core .count - k ≡ 0 = omega arith in e ∙ rw j at (i .same)

@@ -4,9 +4,13 @@ use lib.Dec.{eqb, leb, ltb}
 use lib.ListN.{getD, length}
 use mathlib.Core.Bool.{Bool}
 use mathlib.Core.List.{List}
+use Rattle.basis.specs.Bounds.{within}
 use Rattle.basis.specs.Choice.{both, pick, unless}
-use Rattle.basis.specs.Numbers.{half}
-use Rattle.config.specs.Sizes.{isSpare, names, within}
+use Rattle.basis.specs.Numbers.{half, word}
+use Rattle.config.specs.Sizes.{isSpare, names}
+use Rattle.regions.specs.Beside.{agreesAll}
+use Rattle.regions.specs.Rules.{held, known}
+use Rattle.regions.specs.declared.Regions.{Regions}
 
 -- I8: the bytes end before there are n
 abbrev pub short : ℕ → List ℕ → Bool
@@ -38,6 +42,19 @@ ownerFault count owner ticks =
     (pick (isSpare owner)
     (unless (eqb ticks 1) 24 0)
     (unless (within 1 1000 ticks) 25 0))
+
+-- I8, I9: what a region record says, in an image of so many VMs, behind the regions r; a list has room for 64 regions (H1), and 8 of each of 8 VMs fill it
+unfoldable pub placeFault : ℕ → Regions → ℕ → ℕ → ℕ → ℕ → ℕ
+placeFault vms r holder permission start last =
+    unless (ltb holder vms) 32
+    (unless (both (ltb (r .count) 64) (ltb (held (r .holders) holder (r .count)) 8)) 35
+    (unless (known permission) 33
+    (unless (leb start last) 34
+    (unless (both (leb (r .count) 64) (agreesAll r holder permission start last)) 36 0))))
+
+-- I8, I9, I15: a region record, whose kind is known
+unfoldable pub regionFault : ℕ → Regions → List ℕ → ℕ
+regionFault vms r bs = pick (short 11 bs) 20 (placeFault vms r (getD bs 1 0) (getD bs 2 0) (word bs 3) (word bs 7))
 
 -- I4, I8, I9: a slot record, in an image of `count` VMs, with n slots before it
 unfoldable pub slotFault : ℕ → ℕ → List ℕ → ℕ

@@ -1,13 +1,15 @@
-// Reading the records one after the other: the VMs, the slots, the end.
+// Reading the records one after the other: the VMs, the regions, the slots, the end.
 use crate::Reading;
 use crate::records;
 use basis::numbers;
 use basis::places;
 use config::Config;
+use regions::Regions;
 ghost use Prim.Native.Nat.{_+_, _<_, _^_, _≤_};
 ghost use lib.ListN.{drop, length};
 ghost use mathlib.Core.Path.{_≡_};
-ghost use Rattle.image_reader.specs.Reader.{begun, readEnd, readSlots, readVms, refused};
+ghost use Rattle.image_reader.specs.Reader.{begun, readEnd, readRegions, readSlots, readVms, refused, withRegions};
+ghost use Rattle.regions.specs.Rules.{listed, none};
 
 // The configuration that a core record begins.
 pub fn begun(count: u8, room: u8) -> Config
@@ -21,6 +23,7 @@ pub fn begun(count: u8, room: u8) -> Config
         handlers: [0; 8],
         owners: [0; 64],
         durations: [0; 64],
+        regions: Regions::none(),
     }
 }
 
@@ -58,7 +61,73 @@ pub fn read_vms(s: &[u8], core: Config) -> Reading
         at = at + 9;
         k = k + 1;
     }
-    read_slots(s, at, c)
+    read_regions(s, at, c)
+}
+
+// The region records from `from` on, and all that follows.
+fn read_regions(s: &[u8], from: usize, vms: Config) -> Reading
+    requires { ⌜ (from ≤ length (now s)) × (vms .slots ≡ 0) ⌝ }
+    ensures { λ r. ⌜ r ≡ readRegions 65 (drop from (now (s .entry))) from vms none ⌝ }
+{
+    let mut holders: [u8; 64] = [0; 64];
+    let mut permissions: [u8; 64] = [0; 64];
+    let mut starts: [u32; 64] = [0; 64];
+    let mut lasts: [u32; 64] = [0; 64];
+    let mut at = from;
+    let mut n: u8 = 0;
+    while n < 65 {
+        let rest = &s[at..];
+        if places::byte_at(rest, 0) != 5 {
+            return read_slots(
+                s,
+                at,
+                with_regions(vms, n, holders, permissions, starts, lasts),
+            );
+        }
+        let fault = records::region_fault(
+            vms.count,
+            n,
+            &holders,
+            &permissions,
+            &starts,
+            &lasts,
+            rest,
+        );
+        if fault != 0 {
+            return refused(fault, at);
+        }
+        let i = n as usize;
+        holders[i] = places::byte_at(rest, 1);
+        permissions[i] = places::byte_at(rest, 2);
+        starts[i] = numbers::word(rest, 3);
+        lasts[i] = numbers::word(rest, 7);
+        at = at + 11;
+        n = n + 1;
+    }
+    refused(35, at)
+}
+
+// The configuration with its regions.
+fn with_regions(
+    vms: Config,
+    count: u8,
+    holders: [u8; 64],
+    permissions: [u8; 64],
+    starts: [u32; 64],
+    lasts: [u32; 64],
+) -> Config
+    ensures { λ r. ⌜ r ≡ withRegions vms (listed count holders permissions starts lasts) ⌝ }
+{
+    let mut c = vms;
+    let regions = Regions {
+        count: count,
+        holders: holders,
+        permissions: permissions,
+        starts: starts,
+        lasts: lasts,
+    };
+    c.regions = regions;
+    c
 }
 
 // The slot records from `from` on, and the end record.

@@ -2,7 +2,8 @@
 use basis::numbers;
 use config::Config;
 ghost use mathlib.Core.Path.{_≡_};
-ghost use Rattle.image_reader.specs.Records.{coreFault, ownerFault, slotFault, vmFault};
+ghost use Rattle.image_reader.specs.Records.{coreFault, ownerFault, placeFault, regionFault, slotFault, vmFault};
+ghost use Rattle.regions.specs.Rules.{listed};
 
 // I2, I8, I9.
 pub fn core_fault(s: &[u8]) -> u8
@@ -43,6 +44,80 @@ pub fn vm_fault(s: &[u8]) -> u8
         return 20;
     }
     0
+}
+
+// I8, I9, I15; the kind is known.
+pub fn region_fault(
+    vms: u8,
+    count: u8,
+    holders: &[u8; 64],
+    permissions: &[u8; 64],
+    starts: &[u32; 64],
+    lasts: &[u32; 64],
+    s: &[u8],
+) -> u8
+    ensures { λ r. ⌜ r ≡ regionFault vms (listed count (now (holders .entry)) (now (permissions .entry)) (now (starts .entry)) (now (lasts .entry))) (now (s .entry)) ⌝ }
+{
+    if s.len() < 11 {
+        return 20;
+    }
+    let start = numbers::word(s, 3);
+    let last = numbers::word(s, 7);
+    place_fault(
+        vms,
+        count,
+        holders,
+        permissions,
+        starts,
+        lasts,
+        s[1],
+        s[2],
+        start,
+        last,
+    )
+}
+
+// The faults of what a region record says, beside the regions before it.
+fn place_fault(
+    vms: u8,
+    count: u8,
+    holders: &[u8; 64],
+    permissions: &[u8; 64],
+    starts: &[u32; 64],
+    lasts: &[u32; 64],
+    holder: u8,
+    permission: u8,
+    start: u32,
+    last: u32,
+) -> u8
+    ensures { λ r. ⌜ r ≡ placeFault vms (listed count (now (holders .entry)) (now (permissions .entry)) (now (starts .entry)) (now (lasts .entry))) holder permission start last ⌝ }
+{
+    if vms <= holder {
+        return 32;
+    }
+    if regions::has_room(holder, count, holders) {
+        if regions::is_known(permission) {
+            if last < start {
+                return 34;
+            }
+            if regions::agrees_all(
+                count,
+                holders,
+                permissions,
+                starts,
+                lasts,
+                holder,
+                permission,
+                start,
+                last,
+            ) {
+                return 0;
+            }
+            return 36;
+        }
+        return 33;
+    }
+    35
 }
 
 // I4, I8, I9.

@@ -7,8 +7,8 @@ ghost use Rattle.text.specs.Puts.{Puts};
 
 // N10.
 pub fn put_image(b: &mut [u8], bytes: &[u8]) -> usize
-    requires { ⌜ (length (now bytes) ≤ 332) × (2048 ≤ length (now b)) ⌝ }
-    ensures { λ r. ⌜ Puts (imageText (now (bytes .entry))) (now (b .entry)) 0 (now (b .exit)) r × (r ≤ 2048) ⌝ }
+    requires { ⌜ (length (now bytes) ≤ 1036) × (2080 ≤ length (now b)) ⌝ }
+    ensures { λ r. ⌜ Puts (imageText (now (bytes .entry))) (now (b .entry)) 0 (now (b .exit)) r × (r ≤ 2080) ⌝ }
 {
     let a1 = text::put_word(b, 0, b"image ");
     let a2 = put_bytes(b, a1, bytes);
@@ -16,8 +16,8 @@ pub fn put_image(b: &mut [u8], bytes: &[u8]) -> usize
 }
 
 fn put_bytes(b: &mut [u8], at: usize, bytes: &[u8]) -> usize
-    requires { ⌜ (length (now bytes) ≤ 332) × (at + 664 ≤ length (now b)) ⌝ }
-    ensures { λ r. ⌜ Puts (bytesText (now (bytes .entry)) (length (now (bytes .entry)))) (now (b .entry)) at (now (b .exit)) r × (r ≤ at + 664) ⌝ }
+    requires { ⌜ (length (now bytes) ≤ 1036) × (at + 2072 ≤ length (now b)) ⌝ }
+    ensures { λ r. ⌜ Puts (bytesText (now (bytes .entry)) (length (now (bytes .entry)))) (now (b .entry)) at (now (b .exit)) r × (r ≤ at + 2072) ⌝ }
 {
     let n = bytes.len();
     let mut to = at;

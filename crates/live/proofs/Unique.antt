@@ -13,6 +13,8 @@ use prog.Memory.{Memory}
 use prog.Routine.{Routine}
 use prog.Wp.{Heap}
 use Rattle.basis.proofs.Unique.{OneAnswer}
+use Rattle.live.proofs.core_allows.Kinds as allows-kinds
+use Rattle.live.proofs.core_allows.Reads as allows-reads
 use Rattle.live.proofs.core_fresh.Kinds as fresh-kinds
 use Rattle.live.proofs.core_fresh.Reads as fresh-reads
 use Rattle.live.proofs.core_inner as inner
@@ -22,6 +24,9 @@ use Rattle.live.proofs.happen as happen
 
 pub core-fresh-one : OneAnswer 1 fresh-kinds.ps fresh-kinds.r fresh-reads.Post
 core-fresh-one κs a x y s t p q = p ∙ sym q
+
+pub core-allows-one : OneAnswer 0 allows-kinds.ps allows-kinds.r allows-reads.Post
+core-allows-one κs a x y s t p q = p ∙ sym q
 
 module _ {M : Type 1} (𝓤 : URA M) (H : Heap 𝓤) (A : Atoms 𝓤) (mem : Memory → SProp 𝓤) (run : Routine → Fun 𝓤) where
   -- from two facts a third

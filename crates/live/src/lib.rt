@@ -1,5 +1,6 @@
 // The live core (T9, K6): one core that is lent and changed where it stands, and what a host in C or Rust calls.
 use change::Answer;
+use config::Config;
 use core::After;
 use core::Core;
 use core::Stepped;
@@ -8,6 +9,7 @@ use event::Event;
 ghost use mathlib.Core.Path.{_≡_};
 ghost use Rattle.basis.specs.Nobody.{nobody};
 ghost use Rattle.change.specs.Answers.{quietly};
+ghost use Rattle.config.specs.Sizes.{access};
 ghost use Rattle.core.specs.Events.{stepOf};
 ghost use Rattle.core.specs.Parts.{partsOf};
 ghost use Rattle.live.specs.Host.{begunFrom, innerBy, stepBy};
@@ -88,6 +90,14 @@ pub extern "C" fn core_inner(c: &mut Core, e: Input) -> Answer
     c.running = s.running;
     c.queue = s.queue;
     s.answer
+}
+
+// The access query for a host (H8 to H11).
+#[no_mangle]
+pub extern "C" fn core_allows(config: Config, vm: u8, address: u32, length: u32, way: u8) -> bool
+    ensures { λ r. ⌜ r ≡ access config vm address length way ⌝ }
+{
+    config.allows(vm, address, length, way)
 }
 
 // What is no event is refused with 10, as in a log.

@@ -2,9 +2,9 @@
 use Prim.Native.Nat.{ℕ}
 use lib.Dec.{eqb, leb, ltb}
 use mathlib.Core.Bool.{Bool, not}
+use Rattle.basis.specs.Bounds.{within}
 use Rattle.basis.specs.Choice.{both, pick}
 use Rattle.basis.specs.Nobody.{nobody}
-use Rattle.config.specs.Sizes.{within}
 use Rattle.event.specs.Kinds.{byteOf, isExtra, isFault, isStart, isWrite, ofMaster, ofRunning, subject, wantsReady}
 use Rattle.event.specs.declared.Event.{Event}
 use Rattle.guest.specs.Write.{isField}

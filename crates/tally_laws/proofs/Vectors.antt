@@ -1,9 +1,10 @@
 -- The report of the run of X2 is the text that the rules give.
 use Prim.Native.Nat.{ℕ}
+use Rattle.basis.specs.Bounds.{zeros}
 use lib.ListN.{getD}
 use mathlib.Core.List.{List, append-nil, [], _++_, _∷_}
 use mathlib.Core.Path.{ap, refl, _≡_}
-use Rattle.basis.specs.Count.{every, joined, some, upTo}
+use Rattle.basis.specs.Count.{every, howMany, joined, some, upTo}
 use Rattle.change.specs.Changes.{calledFrom, runningWithout}
 use Rattle.config.specs.Sizes.{durationsFit, hasSlot, legal, ownersFit, slotsRest, vmsRest, vmsServed}
 use Rattle.config.specs.declared.Config.{Config}
@@ -19,9 +20,10 @@ use Rattle.guest.specs.Record.{isBlank, isFresh, pend}
 use Rattle.guest.specs.Write.{isField, stored, write}
 use Rattle.history.specs.History.{Moment, history, moments, ticking, times}
 use Rattle.history.specs.Moments.{naming}
-use Rattle.image_reader.specs.Reader.{readEnd, readImage, readSlots, readVms, refused as refusedImage}
+use Rattle.image_reader.specs.Reader.{readEnd, readImage, readRegions, readSlots, readVms, refused as refusedImage}
 use Rattle.image_reader.specs.Records.{coreFault, ownerFault, slotFault, vmFault}
 use Rattle.queue.specs.Entries.{frontOf, others, paddedOf, pushed, rest}
+use Rattle.regions.specs.Rules.{alikeAll, allAgree, bytesRest, fewEach, held, holdersFit, kept, lawful, permissionsFit, rangesFit, wordsRest}
 use Rattle.table.specs.Place.{tableTo}
 use Rattle.table.specs.Position.{nextClock}
 use Rattle.tally.specs.Figures.{idleTick, missedTick, spareTick, tableTick}
@@ -35,7 +37,7 @@ use Rattle.vms.specs.Records.{each, restFresh}
 use Rattle.vms.specs.Tick.{entering, passed, runnerOf, saving, turn, turnBy}
 
 image-read : (readImage exampleImage .fault ≡ 0) × (readImage exampleImage .config ≡ example 1)
-unfolding refusedImage readImage readEnd readSlots readVms coreFault ownerFault slotFault vmFault vmsServed hasSlot every some
+unfolding refusedImage readImage readEnd readSlots readRegions readVms coreFault ownerFault slotFault vmFault vmsServed hasSlot every some
 image-read = (refl, refl)
 
 log-read : eventsFrom exampleLog 0 ≡ exampleEvents
@@ -46,7 +48,7 @@ run : List Moment
 run = history stepOf (example 1) exampleEvents
 
 figures : figuresOf (example 1) run 0 ∷ figuresOf (example 1) run 1 ∷ lastOf run ∷ [] ≡ (2 ∷ 1 ∷ 1 ∷ []) ∷ (1 ∷ 0 ∷ 0 ∷ []) ∷ (1 ∷ 5 ∷ []) ∷ []
-unfolding run tableTick spareTick missedTick idleTick stepOf refusalOf rowOf sound queuedReady noneReady standingsKnown done startCore tickClock tickTurn tickQueue calledFrom runningWithout refused innerOf legal durationsFit ownersFit vmsServed hasSlot vmsRest slotsRest every some upTo joined isField stored write due deliver enter shown highest setBit clearBit pend isFresh isBlank frontOf rest others pushed paddedOf nextClock each restFresh saving runnerOf entering turnBy passed turn moments times tableTo naming
+unfolding run tableTick spareTick missedTick idleTick stepOf refusalOf rowOf sound queuedReady noneReady standingsKnown done startCore tickClock tickTurn tickQueue calledFrom runningWithout refused innerOf legal durationsFit ownersFit vmsServed hasSlot vmsRest slotsRest every some upTo joined isField stored write due deliver enter shown highest setBit clearBit pend isFresh isBlank frontOf rest others pushed paddedOf nextClock each restFresh saving runnerOf entering turnBy passed turn moments times tableTo naming lawful kept holdersFit permissionsFit rangesFit fewEach held howMany alikeAll allAgree bytesRest wordsRest zeros
 figures = refl
 
 -- two VMs' figures as text

@@ -5,7 +5,8 @@ use mathlib.Core.List.{List, [], _∷_}
 use mathlib.Core.Path.{ap, refl, _≡_}
 use native.Mathlib.Omega.{arith}
 use Rattle.basis.proofs.Laws.{false-true}
-use Rattle.basis.specs.Count.{every, joined, some, upTo}
+use Rattle.basis.specs.Bounds.{zeros}
+use Rattle.basis.specs.Count.{every, howMany, joined, some, upTo}
 use Rattle.change.specs.Changes.{calledFrom, runningWithout}
 use Rattle.config.specs.Ranges.{Given}
 use Rattle.config.specs.Sizes.{durationsFit, hasSlot, legal, ownersFit, slotsRest, vmsRest, vmsServed}
@@ -31,6 +32,7 @@ use Rattle.promises.specs.Delivering.{Highest, Offer}
 use Rattle.promises.specs.Framing.{Enabled, OnTick, Previous, Reason, Restore, Resume}
 use Rattle.promises.specs.Refusing.{firstOf, linesOf}
 use Rattle.queue.specs.Entries.{entriesOf, frontOf, others, paddedOf, pushed, rest}
+use Rattle.regions.specs.Rules.{alikeAll, allAgree, bytesRest, fewEach, held, holdersFit, kept, lawful, permissionsFit, rangesFit, wordsRest}
 use Rattle.table.specs.Place.{tableTo}
 use Rattle.table.specs.Position.{nextClock}
 use Rattle.trials.specs.Examples.{example}
@@ -41,7 +43,7 @@ use Rattle.vms.specs.Records.{each, restFresh}
 use Rattle.vms.specs.Tick.{entering, passed, runnerOf, saving, turn, turnBy}
 
 given : (n : ℕ) → legal (example n) ≡ true → Given (example n)
-given n h = record { legal = h; sized = record { entries = refl; handlers = refl; owners = refl; durations = refl } }
+given n h = record { legal = h; sized = record { entries = refl; handlers = refl; owners = refl; durations = refl; regions = record { holders = refl; permissions = refl; starts = refl; lasts = refl } } }
 
 -- an offer with these numbers pending and enabled
 abbrev offered : ℕ → ℕ → Status
@@ -61,7 +63,7 @@ record Computed : Type 0 where
   occurs : NotEmpty
 
 computed : Computed
-unfolding stepOf refusalOf rowOf sound queuedReady noneReady standingsKnown done startCore tickClock tickTurn tickQueue calledFrom runningWithout refused innerOf legal durationsFit ownersFit vmsServed hasSlot vmsRest slotsRest every some upTo joined isField stored write due deliver enter shown highest setBit clearBit pend isFresh isBlank frontOf rest others pushed paddedOf nextClock each restFresh saving runnerOf entering turnBy passed turn moments stateAfter countAfter times told standingAfter startedAfter queueAfter ends tableTo naming asks begins entriesOf effect entriesNot servedIn removedIn firstOf linesOf deliverEmpty deliverLow lowest
+unfolding stepOf refusalOf rowOf sound queuedReady noneReady standingsKnown done startCore tickClock tickTurn tickQueue calledFrom runningWithout refused innerOf legal durationsFit ownersFit vmsServed hasSlot vmsRest slotsRest every some upTo joined isField stored write due deliver enter shown highest setBit clearBit pend isFresh isBlank frontOf rest others pushed paddedOf nextClock each restFresh saving runnerOf entering turnBy passed turn moments stateAfter countAfter times told standingAfter startedAfter queueAfter ends tableTo naming asks begins entriesOf effect entriesNot servedIn removedIn firstOf linesOf deliverEmpty deliverLow lowest lawful kept holdersFit permissionsFit rangesFit fewEach held howMany alikeAll allAgree bytesRest wordsRest zeros
 computed =
     record {
       refutes = record {

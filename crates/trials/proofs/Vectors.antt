@@ -8,10 +8,12 @@ use mathlib.Core.List.{List, map, [], _∷_}
 use mathlib.Core.Path.{refl, _≡_}
 use native.Mathlib.Decide.{decLt}
 use native.Mathlib.Omega.{arith}
+use Rattle.basis.proofs.Bounds.{within-is}
+use Rattle.basis.specs.Bounds.{zeros}
 use Rattle.basis.specs.Choice.{either}
-use Rattle.basis.specs.Count.{every, joined, some, upTo}
+use Rattle.basis.specs.Count.{every, howMany, joined, some, upTo}
 use Rattle.change.specs.Changes.{calledFrom, runningWithout}
-use Rattle.config.proofs.Legality.{legal-is, within-is}
+use Rattle.config.proofs.Legality.{legal-is}
 use Rattle.config.specs.Sizes.{durationAt, durationsFit, hasSlot, legal, ownersFit, slotsRest, vmsRest, vmsServed}
 use Rattle.core.proofs.Inner.{step-unsound}
 use Rattle.core.specs.Events.{done, innerOf, startCore, stepOf, tickClock, tickQueue, tickTurn}
@@ -24,9 +26,11 @@ use Rattle.guest.specs.Deliver.{deliver, due, enter, shown}
 use Rattle.guest.specs.Record.{isBlank, isFresh, pend}
 use Rattle.guest.specs.Write.{isField, stored, write}
 use Rattle.history.specs.History.{moments, stateAfter}
-use Rattle.image_reader.specs.Reader.{readEnd, readImage, readSlots, readVms, refused as refusedImage}
-use Rattle.image_reader.specs.Records.{coreFault, ownerFault, slotFault, vmFault}
+use Rattle.image_reader.specs.Reader.{readEnd, readImage, readRegions, readSlots, readVms, refused as refusedImage}
+use Rattle.image_reader.specs.Records.{coreFault, ownerFault, placeFault, regionFault, slotFault, vmFault}
 use Rattle.queue.specs.Entries.{entriesOf, frontOf, others, paddedOf, pushed, rest}
+use Rattle.regions.specs.Beside.{agreesAll}
+use Rattle.regions.specs.Rules.{alikeAll, allAgree, bytesRest, fewEach, held, holdersFit, kept, lawful, permissionsFit, rangesFit, wordsRest}
 use Rattle.table.specs.Position.{hasTicked, nextClock}
 use Rattle.trials.specs.Broken.{Broken, brokenStates, clausesOf, good}
 use Rattle.trials.specs.Vectors.{Vector, callShown, linesIn, removedShown, vectors}
@@ -47,9 +51,9 @@ record Computed : Type 0 where
   unsound : AllFalse (soundIn brokenStates)
 
 computed : Computed
-unfolding vectors linesIn callShown removedShown brokenStates clausesOf good refusedImage readImage readEnd readSlots readVms coreFault ownerFault slotFault vmFault stepOf refusalOf rowOf sound queuedReady noneReady standingsKnown done startCore tickClock tickTurn tickQueue calledFrom runningWithout refused innerOf legal durationsFit ownersFit vmsServed hasSlot vmsRest slotsRest every some upTo joined isField stored write due deliver enter shown highest setBit clearBit pend isFresh isBlank frontOf rest others pushed paddedOf nextClock each restFresh saving runnerOf entering turnBy passed turn stateAfter moments entriesOf
+unfolding vectors linesIn callShown removedShown brokenStates clausesOf good refusedImage readImage readEnd readSlots readVms coreFault ownerFault slotFault vmFault stepOf refusalOf rowOf sound queuedReady noneReady standingsKnown done startCore tickClock tickTurn tickQueue calledFrom runningWithout refused innerOf legal durationsFit ownersFit vmsServed hasSlot vmsRest slotsRest every some upTo joined isField stored write due deliver enter shown highest setBit clearBit pend isFresh isBlank frontOf rest others pushed paddedOf nextClock each restFresh saving runnerOf entering turnBy passed turn stateAfter moments entriesOf lawful kept holdersFit permissionsFit rangesFit fewEach held howMany alikeAll allAgree bytesRest wordsRest zeros readRegions regionFault placeFault agreesAll
 computed =
-    record { vectors = refl; good = refl; broken = refl; unsound = (refl, (refl, (refl, (refl, (refl, (refl, (refl, (refl, (refl, (refl, (refl, (refl, (refl, (refl, tt)))))))))))))) }
+    record { vectors = refl; good = refl; broken = refl; unsound = (refl, (refl, (refl, (refl, (refl, (refl, (refl, (refl, (refl, (refl, (refl, (refl, (refl, (refl, (refl, tt))))))))))))))) }
 
 -- X1, X2, P1 to P12, C7
 pub vectors-hold : map (λ (v : Vector). v .found) vectors ≡ map (λ (v : Vector). v .says) vectors

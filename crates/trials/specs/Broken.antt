@@ -1,4 +1,4 @@
--- States that are not sound, one for each of W1 to W12, each with the rules that it breaks.
+-- States that are not sound, for each of W1 to W12 at least one, each with the rules that it breaks.
 use Prim.Native.Nat.{ℕ}
 use mathlib.Core.Bool.{Bool, false, true}
 use mathlib.Core.List.{List, [], _∷_}
@@ -11,6 +11,7 @@ use Rattle.event.specs.declared.Event.the-variants.{Extra, Start, Tick}
 use Rattle.guest.specs.Record.{endedAs, fresh, older, stoppedStanding}
 use Rattle.history.specs.History.{stateOf}
 use Rattle.queue.specs.Entries.{ofList}
+use Rattle.regions.specs.Rules.{listed, none}
 use Rattle.table.specs.declared.Clock.{Clock}
 use Rattle.trials.specs.Examples.{example, zeros}
 
@@ -45,6 +46,21 @@ strayConfig =
       handlers = 0x1004 ∷ 0x2004 ∷ zeros 6;
       owners = 0 ∷ 1 ∷ 255 ∷ zeros 61;
       durations = 2 ∷ 1 ∷ 1 ∷ zeros 61;
+      regions = none;
+    }
+
+-- VM 0 may write 0x1000 to 0x1fff, and VM 1 may read from the last of these bytes on (H6)
+abbrev strayRegions : Config
+strayRegions =
+    record {
+      count = 2;
+      room = 2;
+      slots = 3;
+      entries = 0x1000 ∷ 0x2000 ∷ zeros 6;
+      handlers = 0x1004 ∷ 0x2004 ∷ zeros 6;
+      owners = 0 ∷ 1 ∷ 255 ∷ zeros 61;
+      durations = 2 ∷ 1 ∷ 1 ∷ zeros 61;
+      regions = listed 2 (0 ∷ 1 ∷ zeros 62) (2 ∷ 1 ∷ zeros 62) (0x1000 ∷ 0x1fff ∷ zeros 62) (0x1fff ∷ 0x2fff ∷ zeros 62);
     }
 
 -- W1 to W12
@@ -52,6 +68,8 @@ unfoldable pub brokenStates : List Broken
 brokenStates =
     -- W1: not legal
     broken (withConfig good strayConfig) (false ∷ true ∷ true ∷ true ∷ true ∷ true ∷ true ∷ true ∷ true ∷ true ∷ true ∷ true ∷ [])
+    -- W1: not legal for its regions
+    ∷ broken (withConfig good strayRegions) (false ∷ true ∷ true ∷ true ∷ true ∷ true ∷ true ∷ true ∷ true ∷ true ∷ true ∷ true ∷ [])
     -- W2: VM record 5 has an age
     ∷ broken (withVm good 5 (older fresh)) (true ∷ false ∷ true ∷ true ∷ true ∷ true ∷ true ∷ true ∷ true ∷ true ∷ true ∷ true ∷ [])
     -- W3: three entries in a queue of size 2

@@ -3,6 +3,7 @@ use Prim.Native.Nat.{ℕ}
 use lib.ListN.{replicate}
 use mathlib.Core.List.{List, _∷_}
 use Rattle.config.specs.declared.Config.{Config}
+use Rattle.regions.specs.Rules.{none}
 
 abbrev pub zeros : ℕ → List ℕ
 zeros n = replicate n 0
@@ -18,4 +19,5 @@ example room =
       handlers = 0x1004 ∷ 0x2004 ∷ zeros 6;
       owners = 0 ∷ 1 ∷ 255 ∷ zeros 61;
       durations = 2 ∷ 1 ∷ 1 ∷ zeros 61;
+      regions = none;
     }

@@ -1,42 +1,49 @@
 //! The commands of the program, each with its arguments and its files.
 
-use std::fs;
 use std::io::{self, BufReader, BufWriter, Write};
 use std::path::{Path, PathBuf};
 
+use crate::access::folder::AccessFolder;
+use crate::command_line::files::{
+    files_of, pack, pack_logs, pack_queries, unpack, unpack_logs, unpack_queries, write_case,
+    write_case_logs, write_case_queries,
+};
 use crate::command_line::options::Options;
+use crate::compare::accesses::AccessPlan;
 use crate::compare::child::CommandLine;
 use crate::compare::files::FileProgram;
 use crate::compare::reports::ReportPlan;
 use crate::compare::selftest::selftest;
 use crate::compare::whole::{compare, Plan};
 use crate::core::flaw::Flaw;
-use crate::generate::case::CaseMaker;
-use crate::generate::report::generated_folder;
-use crate::readable_text::parse::{case_of, report_folder_of, TextError};
-use crate::readable_text::print::{report_folder_text, text_of};
 use crate::report::folder::ReportFolder;
-use crate::run::frames::{answer_stream, Case};
-use crate::run::text::{many_text, run_text, Detail};
+use crate::run::frames::answer_stream;
+use crate::run::text::{run_text, Detail};
 
 pub const USAGE: &str = "usage:
   twin run [DIR]                      what runlog prints for the files in DIR
   twin state [DIR]                    what statelog prints for them
   twin report [DIR]                   what report prints for the image and the logs in DIR
   twin report --wrong NAME            what that wrong twin of the report prints for the files here
+  twin access [DIR]                   what access prints for the image and the queries in DIR
+  twin access --wrong NAME            what that wrong twin of access prints for the files here
   twin many [--wrong NAME]            what many prints for the stream on standard input;
                                       with a name from selftest, what that wrong twin prints
   twin pack TEXTFILE DIR              makes config.bin and events.bin from a text
   twin unpack DIR TEXTFILE            makes the text from config.bin and events.bin
   twin pack-logs TEXTFILE DIR         makes config.bin and log00.bin, log01.bin .. from a text
   twin unpack-logs DIR TEXTFILE       makes the text from config.bin and log00.bin, log01.bin ..
+  twin pack-queries TEXTFILE DIR      makes config.bin and queries.bin from a text
+  twin unpack-queries DIR TEXTFILE    makes the text from config.bin and queries.bin
   twin compare --seed N --cases N --many CMD --runlog CMD
-               [--statelog CMD] [--report CMD] [--files N] [--reports N] [--keep DIR]
-               [--patience SECONDS]
+               [--statelog CMD] [--report CMD] [--access CMD] [--files N] [--reports N]
+               [--accesses N] [--keep DIR] [--patience SECONDS]
   twin selftest --seed N --cases N    tells wrong twins from the right one
   twin case --seed N --number N DIR   writes the files of one generated case
   twin case-logs --seed N --number N DIR
                                       writes the files of one generated folder of the report
+  twin case-queries --seed N --number N DIR
+                                      writes the files of one generated folder of access queries
 ";
 
 /// Does what the arguments ask for. Answers whether all is well.
@@ -55,14 +62,27 @@ pub fn obey(words: &[String]) -> Result<bool, String> {
         ("report", []) => print_report(".", Flaw::None),
         ("report", [folder]) => print_report(folder, Flaw::None),
         ("report", ["--wrong", name]) => print_report(".", Flaw::named(&Flaw::WRONG_REPORTS, name)?),
+        ("access", []) => print_answers(".", Flaw::None),
+        ("access", [folder]) => print_answers(folder, Flaw::None),
+        ("access", ["--wrong", name]) => print_answers(".", Flaw::named(&Flaw::WRONG_ACCESSES, name)?),
+        _ => obey_other(command, rest, &texts),
+    }
+}
+
+/// The commands that make files from texts and texts from files, and those that compare.
+fn obey_other(command: &str, rest: &[String], texts: &[&str]) -> Result<bool, String> {
+    match (command, texts) {
         ("pack", [text, folder]) => pack(Path::new(text), Path::new(folder)),
         ("unpack", [folder, text]) => unpack(Path::new(folder), Path::new(text)),
         ("pack-logs", [text, folder]) => pack_logs(Path::new(text), Path::new(folder)),
         ("unpack-logs", [folder, text]) => unpack_logs(Path::new(folder), Path::new(text)),
+        ("pack-queries", [text, folder]) => pack_queries(Path::new(text), Path::new(folder)),
+        ("unpack-queries", [folder, text]) => unpack_queries(Path::new(folder), Path::new(text)),
         ("compare", _) => run_compare(rest),
         ("selftest", _) => run_selftest(rest),
         ("case", [.., folder]) => write_case(&rest[..rest.len() - 1], Path::new(folder)),
         ("case-logs", [.., folder]) => write_case_logs(&rest[..rest.len() - 1], Path::new(folder)),
+        ("case-queries", [.., folder]) => write_case_queries(&rest[..rest.len() - 1], Path::new(folder)),
         ("help" | "--help", _) => Ok(say(USAGE.as_bytes(), true)),
         (known, _) if TAKES_FIXED_ARGUMENTS.contains(&known) => {
             Err(format!("'{command}' has other arguments"))
@@ -72,20 +92,28 @@ pub fn obey(words: &[String]) -> Result<bool, String> {
 }
 
 /// The commands that can be given too many arguments or too few.
-const TAKES_FIXED_ARGUMENTS: [&str; 10] =
-    ["run", "state", "many", "report", "pack", "unpack", "pack-logs", "unpack-logs", "case", "case-logs"];
+const TAKES_FIXED_ARGUMENTS: [&str; 14] = [
+    "run",
+    "state",
+    "many",
+    "report",
+    "access",
+    "pack",
+    "unpack",
+    "pack-logs",
+    "unpack-logs",
+    "pack-queries",
+    "unpack-queries",
+    "case",
+    "case-logs",
+    "case-queries",
+];
 
 /// Prints; an output that cannot be written ends the work quietly.
 fn say(text: &[u8], well: bool) -> bool {
     let mut output = io::stdout().lock();
     let _ = output.write_all(text).and_then(|()| output.flush());
     well
-}
-
-/// A file that cannot be opened counts as empty.
-fn files_of(folder: &Path) -> Case {
-    let content = |name: &str| fs::read(folder.join(name)).unwrap_or_default();
-    Case { image: content("config.bin"), log: content("events.bin") }
 }
 
 fn print_run(folder: &str, detail: Detail) -> Result<bool, String> {
@@ -97,6 +125,10 @@ fn print_report(folder: &str, flaw: Flaw) -> Result<bool, String> {
     Ok(say(&ReportFolder::read(Path::new(folder)).report(flaw), true))
 }
 
+fn print_answers(folder: &str, flaw: Flaw) -> Result<bool, String> {
+    Ok(say(&AccessFolder::read(Path::new(folder)).answers(flaw), true))
+}
+
 fn answer_standard_input(flaw: Flaw) -> Result<bool, String> {
     let mut input = BufReader::new(io::stdin().lock());
     let mut output = BufWriter::with_capacity(1 << 16, io::stdout().lock());
@@ -104,63 +136,13 @@ fn answer_standard_input(flaw: Flaw) -> Result<bool, String> {
     Ok(true)
 }
 
-fn pack(text_path: &Path, folder: &Path) -> Result<bool, String> {
-    write_files(folder, &parsed(text_path, case_of)?)?;
-    Ok(true)
-}
-
-fn pack_logs(text_path: &Path, folder: &Path) -> Result<bool, String> {
-    write_logs(folder, &parsed(text_path, report_folder_of)?)?;
-    Ok(true)
-}
-
-/// What a text file describes.
-fn parsed<Made>(path: &Path, parse: impl Fn(&str) -> Result<Made, TextError>) -> Result<Made, String> {
-    let shown = path.display();
-    let bytes = fs::read(path).map_err(|error| format!("cannot read {shown}: {error}"))?;
-    let text = String::from_utf8(bytes).map_err(|_| format!("{shown} is not a text in UTF-8"))?;
-    parse(&text).map_err(|error| format!("{shown}, line {}: {}", error.line, error.message))
-}
-
-fn write_files(folder: &Path, case: &Case) -> Result<(), String> {
-    let written = fs::create_dir_all(folder)
-        .and_then(|()| fs::write(folder.join("config.bin"), &case.image))
-        .and_then(|()| fs::write(folder.join("events.bin"), &case.log));
-    written.map_err(|error| format!("cannot write into {}: {error}", folder.display()))
-}
-
-fn write_logs(folder: &Path, files: &ReportFolder) -> Result<(), String> {
-    let written = files.write_into(folder);
-    written.map_err(|error| format!("cannot write into {}: {error}", folder.display()))
-}
-
-fn unpack(folder: &Path, text_path: &Path) -> Result<bool, String> {
-    need_some(folder, "config.bin", "events.bin")?;
-    write_text(text_path, text_of(&files_of(folder)))
-}
-
-fn unpack_logs(folder: &Path, text_path: &Path) -> Result<bool, String> {
-    need_some(folder, "config.bin", "log00.bin")?;
-    write_text(text_path, report_folder_text(&ReportFolder::read(folder)))
-}
-
-/// A folder without either file is most likely the wrong folder.
-fn need_some(folder: &Path, image: &str, log: &str) -> Result<(), String> {
-    if folder.join(image).exists() || folder.join(log).exists() {
-        return Ok(());
-    }
-    Err(format!("{} has neither {image} nor {log}", folder.display()))
-}
-
-fn write_text(path: &Path, text: String) -> Result<bool, String> {
-    fs::write(path, text).map_err(|error| format!("cannot write {}: {error}", path.display()))?;
-    Ok(true)
-}
+const COMPARE_OPTIONS: [&str; 12] = [
+    "seed", "cases", "many", "runlog", "statelog", "report", "access", "files", "reports", "accesses",
+    "keep", "patience",
+];
 
 fn run_compare(words: &[String]) -> Result<bool, String> {
-    let known =
-        ["seed", "cases", "many", "runlog", "statelog", "report", "files", "reports", "keep", "patience"];
-    let options = Options::parse(words, &known)?;
+    let options = Options::parse(words, &COMPARE_OPTIONS)?;
     let keep = options.text("keep").map_or(std::env::temp_dir().join("twin-kept"), PathBuf::from);
     let patience = options.number("patience", 300)?;
     let plan = Plan {
@@ -170,6 +152,7 @@ fn run_compare(words: &[String]) -> Result<bool, String> {
         files: options.number("files", 200)? as usize,
         many: CommandLine::parse(options.needed("many")?, patience)?,
         report: report_plan(&options, patience)?,
+        access: access_plan(&options, patience)?,
         keep,
     };
     let (text, well) = compare(&plan);
@@ -193,33 +176,15 @@ fn report_plan(options: &Options, patience: u64) -> Result<Option<ReportPlan>, S
     options.text("report").map(plan).transpose()
 }
 
+fn access_plan(options: &Options, patience: u64) -> Result<Option<AccessPlan>, String> {
+    let folders = options.number("accesses", 400)? as usize;
+    let plan = |text| Ok(AccessPlan { command: CommandLine::parse(text, patience)?, folders });
+    options.text("access").map(plan).transpose()
+}
+
 fn run_selftest(words: &[String]) -> Result<bool, String> {
     let options = Options::parse(words, &["seed", "cases"])?;
     let (seed, cases) = (options.needed_number("seed")?, options.needed_number("cases")?);
     let (text, well) = selftest(seed, cases as usize);
     Ok(say(text.as_bytes(), well))
-}
-
-/// The files of a generated case, its text, and what `many` has to answer.
-fn write_case(words: &[String], folder: &Path) -> Result<bool, String> {
-    let options = Options::parse(words, &["seed", "number"])?;
-    let (seed, number) = (options.needed_number("seed")?, options.needed_number("number")?);
-    let case = CaseMaker::new(seed).case(number as usize);
-    write_files(folder, &case)?;
-    let answer = many_text(&case.image, &case.log, Flaw::None);
-    let written = fs::write(folder.join("run.txt"), text_of(&case))
-        .and_then(|()| fs::write(folder.join("expected"), answer));
-    written.map_err(|error| format!("cannot write into {}: {error}", folder.display()))?;
-    Ok(true)
-}
-
-/// The files of a generated folder, and what `report` has to print for it.
-fn write_case_logs(words: &[String], folder: &Path) -> Result<bool, String> {
-    let options = Options::parse(words, &["seed", "number"])?;
-    let (seed, number) = (options.needed_number("seed")?, options.needed_number("number")?);
-    let files = generated_folder(seed, number as usize);
-    write_logs(folder, &files)?;
-    let written = fs::write(folder.join("expected-report"), files.report(Flaw::None));
-    written.map_err(|error| format!("cannot write into {}: {error}", folder.display()))?;
-    Ok(true)
 }

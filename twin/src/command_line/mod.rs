@@ -1,4 +1,5 @@
 //! The command line: the commands and their options.
 
 pub mod commands;
+mod files;
 pub mod options;

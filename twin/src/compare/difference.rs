@@ -1,11 +1,15 @@
-//! A difference between two texts of a run or a report: where it is, how it is shown, and its files.
+//! A difference between two texts of a run, a report or access queries: where it is, how it is shown, and its
+//! files.
 
 use std::fs;
 use std::io;
 use std::path::{Path, PathBuf};
 
+use crate::access::folder::AccessFolder;
+use crate::access::query::queries_of;
+use crate::core::flaw::Flaw;
 use crate::log::read::{read_record, Record};
-use crate::readable_text::print::{event_line, text_of};
+use crate::readable_text::print::{access_folder_text, event_line, query_line, text_of};
 use crate::report::folder::ReportFolder;
 use crate::run::frames::Case;
 
@@ -14,6 +18,7 @@ use crate::run::frames::Case;
 pub enum Subject {
     Run(Case),
     Report(ReportFolder),
+    Access(AccessFolder),
 }
 
 /// Two texts that should have been the same.
@@ -119,7 +124,24 @@ impl Difference {
             Subject::Report(_) => {
                 text + &shown_whole("expected", &self.expected) + &shown_whole("got", &self.got)
             }
+            Subject::Access(folder) => text + &self.shown_query(folder.query_bytes()),
         }
+    }
+
+    /// The first line that differs, and the query that it answers.
+    fn shown_query(&self, bytes: &[u8]) -> String {
+        let lines = |text: &[u8]| text.split_inclusive(|byte| *byte == b'\n').map(<[u8]>::to_vec).collect();
+        let (right, other): (Vec<Vec<u8>>, Vec<Vec<u8>>) = (lines(&self.expected), lines(&self.got));
+        let same = right.iter().zip(&other).take_while(|(one, two)| one == two).count();
+        let (queries, _) = queries_of(bytes, Flaw::None);
+        let query = queries.get(same).map_or(String::from("(no query)"), |query| query_line(*query));
+        let line = |lines: &[Vec<u8>]| shown(lines.get(same).map(Vec::as_slice));
+        let number = same + 1;
+        format!(
+            "  first differing line: {number}: {query}\n  expected line: {}\n  got line:      {}\n",
+            line(&right),
+            line(&other)
+        )
     }
 
     /// The first event whose answers differ.
@@ -144,6 +166,10 @@ impl Difference {
         let folder = folder.join(format!("seed-{seed}-{}", words.join("-")));
         match &self.subject {
             Subject::Report(files) => files.write_into(&folder)?,
+            Subject::Access(files) => {
+                files.write_into(&folder)?;
+                fs::write(folder.join("run.txt"), access_folder_text(files))?;
+            }
             Subject::Run(case) => {
                 fs::create_dir_all(&folder)?;
                 fs::write(folder.join("config.bin"), &case.image)?;

@@ -1,5 +1,6 @@
 //! The comparison of the programs with the twin, and the test that it notices mistakes.
 
+pub mod accesses;
 pub mod child;
 pub mod difference;
 pub mod files;

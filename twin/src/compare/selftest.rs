@@ -2,12 +2,16 @@
 
 use crate::compare::difference::{first_parting, Parting};
 use crate::core::flaw::{Flaw, Wrong};
+use crate::generate::access::generated_access;
 use crate::generate::case::CaseMaker;
 use crate::generate::report::generated_folder;
 use crate::run::text::many_text;
 
 /// So many cases of runs go with one folder of the reports.
-const CASES_TO_A_FOLDER: usize = 10;
+const CASES_TO_A_REPORT: usize = 10;
+
+/// So many cases of runs go with one folder of access queries, which costs little.
+const CASES_TO_AN_ACCESS: usize = 2;
 
 /// Where a wrong twin first gave itself away: the case, and the place in its text.
 type Discovery = Option<(usize, Parting)>;
@@ -51,37 +55,50 @@ fn discover_reports(seed: u64, folders: usize) -> Vec<Discovery> {
     })
 }
 
-/// Tries every wrong twin: those of runs on so many cases, those of reports on fewer folders. Answers
-/// the text for the reader, and whether all were told apart.
+fn discover_accesses(seed: u64, folders: usize) -> Vec<Discovery> {
+    discover(&Flaw::WRONG_ACCESSES, folders, |number| {
+        let folder = generated_access(seed, number);
+        move |flaw| folder.answers(flaw)
+    })
+}
+
+/// Tries every wrong twin: those of runs on so many cases, those of reports and of access queries on fewer
+/// folders. Answers the text for the reader, and whether all were told apart.
 pub fn selftest(seed: u64, cases: usize) -> (String, bool) {
-    let folders = cases.div_ceil(CASES_TO_A_FOLDER);
-    let mut text = String::new();
-    let mut told_apart = 0;
-    for ((flaw, what), discovery) in Flaw::WRONG_RUNS.iter().zip(discover_runs(seed, cases)) {
-        text += &format!("wrong twin {flaw:?}: {what}\n");
-        told_apart += usize::from(discovery.is_some());
-        text += &match discovery {
-            Some((case, parting)) => {
-                let place = format!("case {case}, event {}", parting.event);
-                shown(&place, &parting)
-            }
-            None => format!("  NEVER told apart in {cases} cases\n"),
-        };
-    }
-    for ((flaw, what), discovery) in Flaw::WRONG_REPORTS.iter().zip(discover_reports(seed, folders)) {
-        text += &format!("wrong twin of the report {flaw:?}: {what}\n");
-        told_apart += usize::from(discovery.is_some());
-        text += &match discovery {
-            Some((folder, parting)) => shown(&format!("folder {folder}"), &parting),
-            None => format!("  NEVER told apart in {folders} folders\n"),
-        };
-    }
-    let all = Flaw::WRONG_RUNS.len() + Flaw::WRONG_REPORTS.len();
+    let reports = cases.div_ceil(CASES_TO_A_REPORT);
+    let accesses = cases.div_ceil(CASES_TO_AN_ACCESS);
+    let tries = [
+        tried(&Flaw::WRONG_RUNS, "", ("case", cases), discover_runs(seed, cases)),
+        tried(&Flaw::WRONG_REPORTS, " of the report", ("folder", reports), discover_reports(seed, reports)),
+        tried(
+            &Flaw::WRONG_ACCESSES,
+            " of access",
+            ("query folder", accesses),
+            discover_accesses(seed, accesses),
+        ),
+    ];
+    let mut text: String = tries.iter().map(|(text, _)| text.as_str()).collect();
+    let told_apart: usize = tries.iter().map(|(_, told_apart)| told_apart).sum();
+    let all = Flaw::WRONG_RUNS.len() + Flaw::WRONG_REPORTS.len() + Flaw::WRONG_ACCESSES.len();
     text += &format!("twin: {told_apart} of {all} wrong twins told apart\n");
     (text, told_apart == all)
 }
 
-fn shown(place: &str, parting: &Parting) -> String {
-    let Parting { expected_line, got_line, .. } = parting;
-    format!("  told apart at {place}\n  right: {expected_line}\n  wrong: {got_line}\n")
+/// What the reader is told about some wrong twins, and how many of them were told apart.
+fn tried(wrong: &Wrong, of: &str, (unit, count): (&str, usize), found: Vec<Discovery>) -> (String, usize) {
+    let mut text = String::new();
+    for ((flaw, what), discovery) in wrong.iter().zip(&found) {
+        text += &format!("wrong twin{of} {flaw:?}: {what}\n");
+        text += &match discovery {
+            Some((number, parting)) => shown(unit, *number, parting),
+            None => format!("  NEVER told apart in {count} {unit}s\n"),
+        };
+    }
+    (text, found.iter().flatten().count())
+}
+
+fn shown(unit: &str, number: usize, parting: &Parting) -> String {
+    let Parting { event, expected_line, got_line, .. } = parting;
+    let event = if unit == "case" { format!(", event {event}") } else { String::new() };
+    format!("  told apart at {unit} {number}{event}\n  right: {expected_line}\n  wrong: {got_line}\n")
 }

@@ -1,12 +1,14 @@
-//! The whole comparison: batches through `many`, torn streams, files, reports, and the count of what was
-//! reached.
+//! The whole comparison: batches through `many`, torn streams, files, reports, access queries, and the count
+//! of what was reached.
 
 use std::path::PathBuf;
 
+use crate::compare::accesses::{compare_accesses, AccessPlan};
 use crate::compare::child::CommandLine;
 use crate::compare::files::{compare_files, special_files, FileCase, FileProgram, Workplace};
 use crate::compare::reports::{compare_reports, ReportPlan};
 use crate::compare::stream::{compare_batch, compare_stream, torn_streams, Trouble};
+use crate::coverage::access::AccessCoverage;
 use crate::coverage::cases::{never_reached, Coverage};
 use crate::coverage::reports::ReportCoverage;
 use crate::generate::case::CaseMaker;
@@ -24,7 +26,34 @@ pub struct Plan {
     pub many: CommandLine,
     pub file_programs: Vec<FileProgram>,
     pub report: Option<ReportPlan>,
+    pub access: Option<AccessPlan>,
     pub keep: PathBuf,
+}
+
+/// What the folders reached, of those programs that are compared.
+struct FolderCoverage {
+    reports: Option<ReportCoverage>,
+    accesses: Option<AccessCoverage>,
+}
+
+impl FolderCoverage {
+    fn points(&self) -> Vec<(String, u64)> {
+        let mut points = self.reports.as_ref().map(ReportCoverage::points).unwrap_or_default();
+        points.extend(self.accesses.as_ref().map(AccessCoverage::points).unwrap_or_default());
+        points
+    }
+
+    /// A line for each of the programs.
+    fn lines(&self) -> String {
+        let mut text = String::new();
+        if let Some(ReportCoverage { folders, ticks, .. }) = &self.reports {
+            text += &format!("report: {folders} folders, {ticks} ticks\n");
+        }
+        if let Some(AccessCoverage { folders, queries, .. }) = &self.accesses {
+            text += &format!("access: {folders} folders, {queries} queries\n");
+        }
+        text
+    }
 }
 
 /// Compares everything. Answers the text for the reader, and whether all is well.
@@ -41,7 +70,7 @@ pub fn compare(plan: &Plan) -> (String, bool) {
             };
             (format!("{}{kept}", difference.report(plan.seed)), false)
         }
-        Ok(reports) => summary(plan, &maker, &coverage, reports.as_ref()),
+        Ok(folders) => summary(plan, &maker, &coverage, &folders),
     }
 }
 
@@ -61,13 +90,16 @@ fn compare_streams(plan: &Plan, maker: &CaseMaker, coverage: &mut Coverage) -> R
     Ok(())
 }
 
-/// The programs that read files. Answers what the reports reached, if they are compared.
-fn compare_folders(plan: &Plan, maker: &CaseMaker) -> Result<Option<ReportCoverage>, Trouble> {
+/// The programs that read files. Answers what the reports and the access queries reached.
+fn compare_folders(plan: &Plan, maker: &CaseMaker) -> Result<FolderCoverage, Trouble> {
     let place = Workplace::new();
     let place =
         place.map_err(|error| Trouble::Failure(format!("cannot make a folder for files: {error}")))?;
     compare_file_runs(plan, maker, &place)?;
-    plan.report.as_ref().map(|report| compare_reports(report, &place, plan.seed)).transpose()
+    let reports = plan.report.as_ref().map(|report| compare_reports(report, &place, plan.seed));
+    let reports = reports.transpose()?;
+    let accesses = plan.access.as_ref().map(|access| compare_accesses(access, &place, plan.seed));
+    Ok(FolderCoverage { reports, accesses: accesses.transpose()? })
 }
 
 fn compare_file_runs(plan: &Plan, maker: &CaseMaker, place: &Workplace) -> Result<(), Trouble> {
@@ -90,14 +122,9 @@ fn file_numbers(plan: &Plan) -> impl Iterator<Item = usize> + '_ {
     (0..count).map(move |index| index * plan.cases / count)
 }
 
-fn summary(
-    plan: &Plan,
-    maker: &CaseMaker,
-    coverage: &Coverage,
-    reports: Option<&ReportCoverage>,
-) -> (String, bool) {
+fn summary(plan: &Plan, maker: &CaseMaker, coverage: &Coverage, folders: &FolderCoverage) -> (String, bool) {
     let mut points = coverage.points();
-    points.extend(reports.map(ReportCoverage::points).unwrap_or_default());
+    points.extend(folders.points());
     let mut text = points_text(&points);
     let missing = never_reached(points);
     if !missing.is_empty() {
@@ -114,9 +141,7 @@ fn summary(
         let special = special_files(&maker.case(2)).len();
         text += &format!("{}: {} runs with files\n", program.name, special + file_numbers(plan).count());
     }
-    if let Some(ReportCoverage { folders, ticks, .. }) = reports {
-        text += &format!("report: {folders} folders, {ticks} ticks\n");
-    }
+    text += &folders.lines();
     text += &format!("twin: {} cases, {} events, no difference\n", plan.cases, coverage.events);
     (text, true)
 }

@@ -61,6 +61,68 @@ pub enum Flaw {
     ServedIsRemoved,
     /// A8: a Call for a service that there is not tells of no entries.
     UnknownServiceTellsNone,
+    /// I9: 33 comes before 35.
+    PermissionBeforeCount,
+    /// I9: 34 comes before 33.
+    RangeBeforePermission,
+    /// I9: 35 comes before 32, once every VM of the image holds eight regions.
+    CountBeforeHolder,
+    /// I9: 36 comes before 34, as if a region that starts after its last address could overlap.
+    OverlapBeforeRange,
+    /// H2, I8: a region of the VM behind the last one is taken.
+    HolderBehindLastAccepted,
+    /// H5, I8: a ninth region is taken.
+    NinthRegionAccepted,
+    /// H3, I8: permission 0 is taken.
+    PermissionZeroAccepted,
+    /// H3, I8: permission 4 is taken.
+    PermissionFourAccepted,
+    /// H4, I8: a region of one byte starts after its last address.
+    SingleByteRefused,
+    /// H4, H6: the last address is not in the region.
+    LastAddressExcluded,
+    /// H6, I8: 36 only where the later region may be written.
+    OnlyLaterIsWritten,
+    /// H6, I8: 36 only where the earlier region may be written.
+    OnlyEarlierIsWritten,
+    /// H6, I8: 36 only where both may be written.
+    BothAreWritten,
+    /// H6, H7: 36 where none may be written.
+    ReadOverlapRefused,
+    /// H6: regions that share one byte do not overlap.
+    SharedByteIsApart,
+    /// H6: regions that adjoin overlap.
+    AdjoiningOverlaps,
+    /// H6, I8: regions with the same start have the same range.
+    EqualStartsAreEqualRanges,
+    /// H6, I8: regions with the same last address have the same range.
+    EqualLastsAreEqualRanges,
+    /// H6, I8: the same range is a clash too.
+    SharedRangeRefused,
+    /// H7: regions of one VM clash.
+    OwnOverlapRefused,
+    /// I8: 36 is looked for at the region straight before only.
+    OnlyNeighbourIsAsked,
+    /// I6, I15: a region behind a slot is taken.
+    RegionBehindSlotAccepted,
+    /// I6, I15: a region before the last VM record is taken.
+    RegionBeforeVmAccepted,
+    /// I15: there are no regions: their kind is unknown.
+    RegionKindUnknown,
+    /// I6, I15: the image written again has no regions.
+    WriterLeavesRegionsOut,
+    /// H1: the image written again has the regions by their VMs.
+    WriterSortsRegions,
+    /// I6, I15: the image written again has the regions behind the slots.
+    WriterPutsRegionsLast,
+    /// H6: a configuration is not legal where VMs share a range.
+    LegalForgetsSharing,
+    /// H7: a configuration is not legal where regions of one VM overlap.
+    LegalForgetsOwnOverlap,
+    /// H3: a configuration is not legal where a region may be executed only.
+    LegalForgetsExecute,
+    /// H5: a configuration is not legal where all VMs together hold more than eight regions.
+    LegalCountsAllRegions,
     /// N14: a log runs on the core that the one before it left.
     CarriesState,
     /// N14, N15: the ticks of the logs before it count for a log's place in the table.
@@ -99,6 +161,70 @@ pub enum Flaw {
     TableBySlots,
     /// N18: the last VM has no line.
     NoRowForLastVm,
+    /// H8: memory that may be read may be executed.
+    ReadAllowsExecute,
+    /// H8: memory that may be read may be written.
+    ReadAllowsWrite,
+    /// H8: memory that may be executed may be read.
+    ExecuteAllowsRead,
+    /// H8: memory that may be written cannot be read.
+    WriteForbidsRead,
+    /// H9: regions of other VMs count.
+    AnyHolderGrants,
+    /// H9: a range lies in one region or in none.
+    OneRegionCovers,
+    /// H9: regions that adjoin do not go on in each other, those that overlap do.
+    AdjoiningIsGap,
+    /// H9: a byte between two regions belongs to them.
+    GapIsClosed,
+    /// H9: a region inside a longer one ends that too.
+    InnerRegionShortens,
+    /// H9: only the first byte counts.
+    FirstByteCounts,
+    /// H9: only the first and the last byte count.
+    EndsCount,
+    /// H4, H9: the last address is not granted.
+    LastByteLeftOut,
+    /// H10: a range past the end of the space goes on at 0.
+    RangeWraps,
+    /// H10: of a range past the end only the bytes before it count.
+    RangeIsCutOff,
+    /// H10: a range up to the end of the space goes past it.
+    EndOfSpaceIsPast,
+    /// H10: a length of 0 is no.
+    LengthZeroIsNo,
+    /// H10: a length of 0 is yes for a VM that there is not.
+    LengthZeroBeforeVm,
+    /// H10: a length of 0 is yes for a way that there is not.
+    LengthZeroBeforeWay,
+    /// H10: a length of 0 is yes only at a byte that is granted.
+    LengthZeroNeedsRegion,
+    /// H10: the VM behind the last one is the last.
+    VmBehindLastIsLast,
+    /// H8, H10: a way that there is not is a read.
+    UnknownWayReads,
+    /// H11: without regions every byte is granted.
+    NoRegionsGrantAll,
+    /// N22: the numbers of a query stand high byte first.
+    QueryHighByteFirst,
+    /// N22: the way stands before the VM.
+    QueryWayFirst,
+    /// N24: a cut record has the number of the lines before it.
+    CutCountsFromZero,
+    /// N24: a cut record prints nothing.
+    CutIsDropped,
+    /// N24: the bytes that a cut record lacks are 0.
+    CutIsFilled,
+    /// N25: too many queries are noticed before a refused image.
+    LongBeforeImage,
+    /// N25: 60,000 bytes of queries are too many.
+    LargestIsLong,
+    /// N25: more than 60,000 bytes of queries are answered.
+    LongIsAnswered,
+    /// N25: the lines before the limit are printed, then `long`.
+    LongAfterAnswers,
+    /// N5, N25: a refused image answers every query with no.
+    RefusedImageAnswersNo,
 }
 
 /// Wrong twins, each with what it does wrong.
@@ -110,59 +236,4 @@ impl Flaw {
         let found = wrong.iter().find(|(flaw, _)| format!("{flaw:?}") == name);
         found.map(|(flaw, _)| *flaw).ok_or(format!("there is no wrong twin '{name}'"))
     }
-
-    /// Every wrong twin of a run.
-    pub const WRONG_RUNS: [(Flaw, &'static str); 28] = [
-        (Flaw::GuestClock, "raises the guest's own copy of ticksWhileRunning"),
-        (Flaw::SpareChargedToSlice, "charges a spare tick to the VM's next slice"),
-        (Flaw::StopMovesTable, "moves the table on when the running VM is stopped"),
-        (Flaw::ClearsAllPending, "clears the whole pending field at a delivery"),
-        (Flaw::LowestNumberFirst, "delivers the lowest number first"),
-        (Flaw::StoppedStaysQueued, "leaves the entries of a stopped VM in the queue"),
-        (Flaw::ShutdownAtOnce, "delivers number 11 at the master's Shutdown"),
-        (Flaw::RefusedTickAges, "ages the VMs at a refused tick"),
-        (Flaw::RestartKeepsQueue, "leaves the entries of a restarted VM in the queue"),
-        (Flaw::WriterSwapsBytes, "writes the numbers of an image high byte first"),
-        (Flaw::Fault28OffByOne, "answers fault 28 with the next offset"),
-        (Flaw::InjectMasksArgument, "cuts the argument of service 2 to five bits"),
-        (Flaw::OnlyReadyAge, "ages only the VMs that are ready"),
-        (Flaw::ReturnDoesNotDeliver, "does not deliver at service 1"),
-        (Flaw::InjectWaits, "does not deliver at service 2"),
-        (Flaw::InjectItsOwn, "delivers the number just set at service 2 though a higher one is due"),
-        (Flaw::QueueTakesOneMore, "takes one entry more than the queue size"),
-        (Flaw::NewestEntryFirst, "takes the newest queue entry in a spare tick"),
-        (Flaw::EndingCallKeepsAddress, "stores no next address at a call that ends its VM"),
-        (Flaw::GenerateForEveryone, "joins generate-on-tick into pending for VMs that do not run"),
-        (Flaw::RestartStopsRunning, "takes the core from a running VM at its Restart"),
-        (Flaw::BodyBeforeKind, "reads the body of an image record before it judges the kind"),
-        (Flaw::SlotNameBeforeCount, "tests the name of a 65th slot before the count"),
-        (Flaw::RemovedIsWholeQueue, "answers all the queue's entries as removed, not the VM's alone"),
-        (Flaw::RemovedIsWhatIsLeft, "counts the VM's entries after their removal"),
-        (Flaw::RestartTellsNone, "answers 0 removed at a Restart"),
-        (Flaw::ServedIsRemoved, "answers the entry that a spare tick serves as removed"),
-        (Flaw::UnknownServiceTellsNone, "answers 0 removed at a call for a service that there is not"),
-    ];
-
-    /// Every wrong twin of a report.
-    pub const WRONG_REPORTS: [(Flaw, &'static str); 19] = [
-        (Flaw::CarriesState, "carries the state of the core from log to log"),
-        (Flaw::CarriesPlace, "carries the place in the table from log to log"),
-        (Flaw::SkipsMissingLog, "skips a missing log in place of ending the list"),
-        (Flaw::EmptyLogEndsList, "ends the list at a log without a byte"),
-        (Flaw::CutEndsList, "ends the list at a log that is cut"),
-        (Flaw::CutLogAddsNothing, "leaves out what a log holds before its cut"),
-        (Flaw::LongLogEndsList, "ends the list at a log that is too long"),
-        (Flaw::LongLogIsRun, "runs a log that is too long"),
-        (Flaw::LargestLogIsTooLong, "leaves out a log of 60,000 bytes"),
-        (Flaw::ReadsSeventeenLogs, "reads a seventeenth log"),
-        (Flaw::IdleWithoutMissed, "leaves the missed ticks out of the idle ones"),
-        (Flaw::RefusedTicksCount, "counts refused ticks"),
-        (Flaw::PlaceCountsRefused, "moves the place in the table at a refused tick"),
-        (Flaw::SpareAsTable, "counts a spare tick as a table tick"),
-        (Flaw::MissedAsTable, "counts a missed tick as a table tick"),
-        (Flaw::SpareIdleIsMissed, "counts an idle spare tick as missed by the VM of the tick before"),
-        (Flaw::StoppedHasNotRun, "takes the tick from a VM that ends within it"),
-        (Flaw::TableBySlots, "goes through the table slot by slot, whatever their durations"),
-        (Flaw::NoRowForLastVm, "prints no row for the last VM"),
-    ];
 }

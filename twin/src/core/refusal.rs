@@ -49,7 +49,7 @@ impl Core {
     /// Is this a state that the events keep? (A standing or flag without a meaning cannot be
     /// written down in this program, so it needs no test here.)
     pub fn sound(&self) -> bool {
-        self.config.legal()
+        self.config.legal_for(self.flaw)
             && self.spare_records_fresh()
             && self.queue_sound()
             && self.start_sound()

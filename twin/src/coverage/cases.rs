@@ -5,6 +5,8 @@ use crate::core::flaw::Flaw;
 use crate::core::limits::MAX_LOG_BYTES;
 use crate::core::Core;
 use crate::coverage::marks::{event_marks, image_marks, log_marks, Mark};
+use crate::coverage::regions::RegionCoverage;
+use crate::generate::image::FAULTS;
 use crate::image::read::read_image;
 use crate::log::read::{read_record, Record};
 use crate::run::frames::Case;
@@ -42,7 +44,9 @@ pub struct Coverage {
     /// R1
     refusals: [[u64; 10]; 9],
     /// I8
-    image_faults: [u64; 9],
+    image_faults: [u64; FAULTS.len()],
+    /// H1 to H7, I15
+    regions: RegionCoverage,
     images_accepted: u64,
     /// L4, N7
     cuts: u64,
@@ -70,7 +74,8 @@ impl Default for Coverage {
         Coverage {
             events: 0,
             refusals: [[0; 10]; 9],
-            image_faults: [0; 9],
+            image_faults: [0; FAULTS.len()],
+            regions: RegionCoverage::default(),
             images_accepted: 0,
             cuts: 0,
             longs: 0,
@@ -91,8 +96,13 @@ impl Coverage {
     pub fn observe(&mut self, case: &Case) {
         let read = read_image(&case.image, Flaw::None);
         image_marks(&case.image, &read, &mut |mark| self.marks[mark as usize] += 1);
+        self.regions.observe(&case.image, &read);
         match read {
-            Err(fault) => self.image_faults[usize::from(fault.number) - 20] += 1,
+            Err(fault) => {
+                for (number, count) in FAULTS.iter().zip(&mut self.image_faults) {
+                    *count += u64::from(*number == fault.number);
+                }
+            }
             Ok(config) => {
                 self.images_accepted += 1;
                 self.observe_log(Core::fresh(config, Flaw::None), &case.log);
@@ -175,21 +185,23 @@ impl Coverage {
         for mark in Mark::ALL {
             points.push((String::from(mark.name()), self.marks[mark as usize]));
         }
+        points.extend(self.regions.points());
         points
     }
 
     fn run_points(&self) -> Vec<(String, u64)> {
-        let mut points = vec![
+        let fault = |(number, count): (&u8, &u64)| (format!("image fault {number}"), *count);
+        let mut points: Vec<(String, u64)> = FAULTS.iter().zip(&self.image_faults).map(fault).collect();
+        points.extend([
             (String::from("image accepted"), self.images_accepted),
             (String::from("log cut (refusal 10)"), self.cuts),
             (String::from("log too long"), self.longs),
-        ];
+        ]);
         let mut add = |name: &str, first: usize, counts: &[u64]| {
             for (index, count) in counts.iter().enumerate() {
                 points.push((format!("{name} {}", first + index), *count));
             }
         };
-        add("image fault", 20, &self.image_faults);
         add("service", 0, &self.services[..5]);
         add("unknown service, over", 4, &self.services[5..]);
         add("notice", 0, &self.notices);

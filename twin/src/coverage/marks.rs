@@ -30,9 +30,9 @@ marks! {
     /// I8, P6
     EmptyImage = "image: empty",
     /// S9
-    FullImage = "image: 332 bytes, accepted",
+    FullImage = "image: 1,036 bytes, accepted",
     /// I14
-    LongerImage = "image: over 332 bytes",
+    LongerImage = "image: over 1,036 bytes",
     /// S1
     OneVm = "image: 1 VM",
     /// S1

@@ -1,5 +1,8 @@
 //! What the cases and the folders of a comparison reach, and what they have to reach.
 
+pub mod access;
 pub mod cases;
 pub mod marks;
+pub mod query_view;
+pub mod regions;
 pub mod reports;

@@ -4,8 +4,9 @@ use crate::core::config::{Config, Slot, VmPlace, SPARE};
 use crate::core::event::Event;
 use crate::core::flaw::Flaw;
 use crate::core::limits::{MAX_LOG_BYTES, MAX_QUEUE, MAX_SLOTS, MAX_VMS};
+use crate::edges::regions::{longest_config, region_cases};
 use crate::edges::removals::{removals, removals_of_none};
-use crate::generate::image::{config_of, faulty_image, legal_config};
+use crate::generate::image::{config_of, faulty_image, legal_config, FAULTS};
 use crate::generate::log::LogMaker;
 use crate::generate::random::Random;
 use crate::image::read::{KIND_CORE, KIND_END, KIND_SLOT, KIND_VM};
@@ -22,6 +23,9 @@ pub fn edge_cases(random: &mut Random) -> Vec<Case> {
         scripted(&small(1, 0), &every_number()),
         scripted(&small(1, 2), &every_offset()),
         scripted(&small(2, 1), &every_refusal()),
+    ];
+    cases.extend(region_cases());
+    cases.extend([
         scripted(&lone(1), &every_service()),
         scripted(&small(2, 3), &arguments()),
         scripted(&lone(0), &injections()),
@@ -35,8 +39,8 @@ pub fn edge_cases(random: &mut Random) -> Vec<Case> {
         Case::default(),
         scripted(&wide(), &wide_slots()),
         one_slot_only(random),
-    ];
-    cases.extend((20..=28).flat_map(|fault| [fault; 6]).map(|fault| refused(random, fault)));
+    ]);
+    cases.extend(FAULTS.into_iter().flat_map(|fault| [fault; 6]).map(|fault| refused(random, fault)));
     cases.extend(full_images(random));
     cases.extend(image_edges());
     cases.extend(cut_logs());
@@ -253,20 +257,25 @@ fn refused(random: &mut Random, fault: u8) -> Case {
     Case { image: faulty_image(random, fault), log }
 }
 
-/// The longest image, run through its whole table; and the same with bytes behind it.
+/// The longest image, run through its whole table; the longest without regions; and the same with bytes
+/// behind them.
 fn full_images(random: &mut Random) -> Vec<Case> {
-    let config = config_of(random, MAX_VMS, MAX_QUEUE, MAX_SLOTS);
-    let image = image_bytes(&config, Flaw::None);
-    let log = LogMaker::new(random, &config).events(300);
-    let longer = [image.clone(), vec![0; 70]].concat();
-    let one_more = [&image[..image.len() - 1], &[KIND_SLOT, 200, 0, 0, KIND_END]].concat();
-    let longest = [image.clone(), vec![4; MAX_PART - image.len()]].concat();
-    vec![
-        Case { image, log },
-        Case { image: longer, log: vec![KIND_START] },
-        Case { image: longest, log: Vec::new() },
-        Case { image: one_more, log: Vec::new() },
-    ]
+    let without = config_of(random, MAX_VMS, MAX_QUEUE, MAX_SLOTS);
+    let mut cases = Vec::new();
+    for config in [longest_config(), without] {
+        let image = image_bytes(&config, Flaw::None);
+        let log = LogMaker::new(random, &config).events(300);
+        let longer = [image.clone(), vec![0; 70]].concat();
+        let one_more = [&image[..image.len() - 1], &[KIND_SLOT, 200, 0, 0, KIND_END]].concat();
+        let longest = [image.clone(), vec![4; MAX_PART - image.len()]].concat();
+        cases.extend([
+            Case { image, log },
+            Case { image: longer, log: vec![KIND_START] },
+            Case { image: longest, log: Vec::new() },
+            Case { image: one_more, log: Vec::new() },
+        ]);
+    }
+    cases
 }
 
 /// Images at the edges of the sizes, each changed by one step outward.
@@ -299,6 +308,7 @@ fn image_edges() -> Vec<Case> {
         changed(18, 0),
         changed(18, 2),
         changed(20, 5),
+        changed(20, 6),
         longest_slot,
         too_long,
     ]

@@ -1,5 +1,7 @@
 //! The fixed cases and folders that every comparison begins with.
 
+pub mod access;
 pub mod cases;
+pub mod regions;
 pub mod removals;
 pub mod reports;

@@ -3,7 +3,7 @@
 use crate::core::flaw::Flaw;
 use crate::core::limits::MAX_LOG_BYTES;
 use crate::edges::cases::{edge_cases, ordinary_case};
-use crate::generate::image::{faulty_image, legal_config};
+use crate::generate::image::{faulty_image, legal_config, FAULTS};
 use crate::generate::log::LogMaker;
 use crate::generate::random::Random;
 use crate::image::write::image_bytes;
@@ -42,7 +42,7 @@ fn random_case(random: &mut Random) -> Case {
             ordinary_case(random, steps)
         }
         1 => {
-            let fault = random.between(20, 28) as u8;
+            let fault = random.pick(&FAULTS);
             let mut case = ordinary_case(random, 5);
             case.image = faulty_image(random, fault);
             case

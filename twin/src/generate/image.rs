@@ -3,11 +3,19 @@
 use crate::core::config::{Config, Slot, VmPlace, SPARE};
 use crate::core::flaw::Flaw;
 use crate::core::limits::{MAX_QUEUE, MAX_SLOTS, MAX_SLOT_TICKS, MAX_VMS};
+use crate::generate::case::change_bytes;
 use crate::generate::random::Random;
-use crate::image::read::{KIND_CORE, KIND_END, KIND_SLOT, KIND_VM};
+use crate::generate::regions::{
+    add_some_regions, image_with_bad_region, image_with_region_out_of_place, slots_at,
+};
+use crate::image::read::{KIND_CORE, KIND_END, KIND_REGION, KIND_SLOT, KIND_VM};
 use crate::image::write::image_bytes;
 
-/// A legal configuration with many small slots, so that a run soon goes round its table.
+/// Every fault of an image, in the order of the numbers (I8).
+pub const FAULTS: [u8; 14] = [20, 21, 22, 23, 24, 25, 26, 27, 28, 32, 33, 34, 35, 36];
+
+/// A legal configuration with many small slots, so that a run soon goes round its table. Most of them have
+/// no regions or a few.
 pub fn legal_config(random: &mut Random) -> Config {
     let vm_count = if random.percent(20) { random.pick(&[1, MAX_VMS]) } else { random.between(1, MAX_VMS) };
     let queue_size = match random.below(10) {
@@ -17,10 +25,12 @@ pub fn legal_config(random: &mut Random) -> Config {
     };
     let most = if random.percent(10) { MAX_SLOTS } else { vm_count + 6 };
     let slot_count = random.between(vm_count, most.min(MAX_SLOTS));
-    config_of(random, vm_count, queue_size, slot_count)
+    let mut config = config_of(random, vm_count, queue_size, slot_count);
+    add_some_regions(random, &mut config);
+    config
 }
 
-/// A legal configuration with these counts; there is a slot for each VM.
+/// A legal configuration with these counts and without regions; there is a slot for each VM.
 pub fn config_of(random: &mut Random, vm_count: usize, queue_size: usize, slot_count: usize) -> Config {
     let mut config = Config::zero();
     config.vm_count = vm_count as u8;
@@ -69,11 +79,31 @@ fn give_everyone_a_slot(random: &mut Random, config: &mut Config, style: usize) 
     }
 }
 
-/// An image that the reader must refuse with this fault number, 20 to 28.
+/// The image of a configuration; sometimes a refused one in its place, or none.
+pub fn mostly_good_image(random: &mut Random, config: &Config) -> Option<Vec<u8>> {
+    let mut image = image_bytes(config, Flaw::None);
+    match random.weighted(&[93, 3, 2, 2]) {
+        1 => {
+            let fault = random.pick(&FAULTS);
+            image = faulty_image(random, fault);
+        }
+        2 => change_bytes(random, &mut image, 1),
+        3 => return None,
+        _ => {}
+    }
+    Some(image)
+}
+
+/// An image that the reader must refuse with this fault number, one of FAULTS.
 pub fn faulty_image(random: &mut Random, fault: u8) -> Vec<u8> {
+    match fault {
+        32..=36 => return image_with_bad_region(random, fault),
+        21 if random.percent(30) => return image_with_region_out_of_place(random),
+        _ => {}
+    }
     let config = legal_config(random);
     let mut image = image_bytes(&config, Flaw::None);
-    let slots_at = 3 + 9 * usize::from(config.vm_count);
+    let slots_at = slots_at(&config);
     let slot = slots_at + 4 * random.below(usize::from(config.slot_count));
     match fault {
         20 => image.truncate(random.below(image.len())),
@@ -108,16 +138,16 @@ fn set_slot(image: &mut [u8], at: usize, owner: u8, ticks: u16) {
 /// A record in the wrong place, an unknown kind, or an unknown kind as the last byte.
 fn wrong_kind(random: &mut Random, image: &mut Vec<u8>, slots_at: usize) {
     match random.below(5) {
-        0 => image[0] = random.pick(&[KIND_VM, KIND_SLOT, KIND_END, 0, 5]),
-        1 => image[3] = random.pick(&[KIND_CORE, KIND_SLOT, KIND_END, 0, 5, 255]),
-        2 => image[slots_at] = random.pick(&[KIND_CORE, KIND_VM, 0, 5, 16]),
+        0 => image[0] = random.pick(&[KIND_VM, KIND_SLOT, KIND_END, KIND_REGION, 0, 6]),
+        1 => image[3] = random.pick(&[KIND_CORE, KIND_SLOT, KIND_END, KIND_REGION, 0, 6, 255]),
+        2 => image[slots_at] = random.pick(&[KIND_CORE, KIND_VM, 0, 6, 16]),
         3 => {
             image.truncate(slots_at);
-            image.push(random.pick(&[KIND_CORE, KIND_VM, 0, 5, 255]));
+            image.push(random.pick(&[KIND_CORE, KIND_VM, 0, 6, 255]));
         }
         _ => {
             image.truncate(3);
-            image.push(random.pick(&[KIND_CORE, KIND_SLOT, KIND_END, 6]));
+            image.push(random.pick(&[KIND_CORE, KIND_SLOT, KIND_END, KIND_REGION, 6]));
         }
     }
 }

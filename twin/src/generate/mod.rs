@@ -1,8 +1,10 @@
 //! The cases and the random folders of a seed, their parts, and the random numbers behind them.
 
+pub mod access;
 pub mod case;
 pub mod image;
 pub mod log;
 pub mod random;
+pub mod regions;
 pub mod report;
 pub mod values;

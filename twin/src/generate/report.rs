@@ -1,14 +1,12 @@
 //! Random folders for the report: several logs for one image, with missing and damaged ones among them.
 
 use crate::core::config::Config;
-use crate::core::flaw::Flaw;
 use crate::core::limits::{MAX_LOG_BYTES, MAX_REPORT_LOGS};
 use crate::edges::cases::TICK;
-use crate::generate::case::{change_bytes, steps};
-use crate::generate::image::{faulty_image, legal_config};
+use crate::generate::case::steps;
+use crate::generate::image::{legal_config, mostly_good_image};
 use crate::generate::log::LogMaker;
 use crate::generate::random::Random;
-use crate::image::write::image_bytes;
 use crate::log::read::{read_record, Record};
 use crate::log::write::log_of;
 use crate::report::folder::{LogFile, ReportFolder};
@@ -29,7 +27,7 @@ fn random_folder(random: &mut Random) -> ReportFolder {
     if count > 0 && random.percent(25) {
         logs[random.below(count)] = LogFile::Missing;
     }
-    ReportFolder { image: image(random, &config), logs }
+    ReportFolder { image: mostly_good_image(random, &config), logs }
 }
 
 /// Mostly a handful; sometimes none, as many as are read, or one more.
@@ -41,21 +39,6 @@ fn log_count(random: &mut Random) -> usize {
         5..=6 => random.between(6, MAX_REPORT_LOGS - 1),
         _ => random.between(1, 5),
     }
-}
-
-/// Mostly the image that the logs are made for; sometimes a refused one, or none.
-fn image(random: &mut Random, config: &Config) -> Option<Vec<u8>> {
-    let mut image = image_bytes(config, Flaw::None);
-    match random.weighted(&[93, 3, 2, 2]) {
-        1 => {
-            let fault = random.between(20, 28) as u8;
-            image = faulty_image(random, fault);
-        }
-        2 => change_bytes(random, &mut image, 1),
-        3 => return None,
-        _ => {}
-    }
-    Some(image)
 }
 
 fn log_file(random: &mut Random, config: &Config) -> LogFile {

@@ -1,13 +1,16 @@
-//! The reader of configuration images: rules I1 to I10.
+//! The reader of configuration images: rules I1 to I10 and I13 to I15.
 
 use crate::core::config::{Config, Slot, VmPlace, SPARE};
 use crate::core::flaw::Flaw;
 use crate::core::limits::{MAX_QUEUE, MAX_SLOTS, MAX_SLOT_TICKS, MAX_VMS};
+use crate::core::region::Region;
+use crate::image::region_fault::region_fault;
 
 pub const KIND_CORE: u8 = 0x01;
 pub const KIND_VM: u8 = 0x02;
 pub const KIND_SLOT: u8 = 0x03;
 pub const KIND_END: u8 = 0x04;
+pub const KIND_REGION: u8 = 0x05;
 
 /// Why an image was refused, and where.
 #[derive(Clone, Copy, Debug, PartialEq, Eq)]
@@ -23,32 +26,23 @@ pub fn image_body_length(kind: u8) -> Option<usize> {
         KIND_VM => Some(8),
         KIND_SLOT => Some(3),
         KIND_END => Some(0),
+        KIND_REGION => Some(10),
         _ => None,
     }
 }
 
 /// Reads a whole image. The first fault from the front is the answer.
 pub fn read_image(bytes: &[u8], flaw: Flaw) -> Result<Config, ImageFault> {
-    let mut reader = Reader { config: Config::zero(), vms_read: 0, seen_core: false, flaw };
-    let mut at = 0;
-    loop {
-        let fault = |number| ImageFault { number, offset: at };
-        let kind = *bytes.get(at).ok_or(fault(20))?;
-        let in_place = reader.has_place(kind);
-        let length = match image_body_length(kind) {
-            Some(length) if in_place || flaw == Flaw::BodyBeforeKind => length,
-            _ => return Err(fault(21)),
-        };
-        let body = bytes.get(at + 1..at + 1 + length).ok_or(fault(20))?;
-        if !in_place {
-            return Err(fault(21));
-        }
-        reader.take(kind, body).map_err(fault)?;
-        at += 1 + length;
-        if kind == KIND_END {
-            return reader.finish(bytes.len(), at);
-        }
-    }
+    let mut reader = Reader::new(flaw);
+    reader.read(bytes)?;
+    Ok(reader.config)
+}
+
+/// What the records of an image say before its first fault, for those who look at faults.
+pub fn config_before_fault(bytes: &[u8]) -> Config {
+    let mut reader = Reader::new(Flaw::None);
+    let _ = reader.read(bytes);
+    reader.config
 }
 
 struct Reader {
@@ -59,14 +53,53 @@ struct Reader {
 }
 
 impl Reader {
-    /// Rule I6: may a record of this kind stand here?
+    fn new(flaw: Flaw) -> Reader {
+        Reader { config: Config::zero(), vms_read: 0, seen_core: false, flaw }
+    }
+
+    /// Takes in record after record, up to the end or the first fault.
+    fn read(&mut self, bytes: &[u8]) -> Result<(), ImageFault> {
+        let mut at = 0;
+        loop {
+            let fault = |number| ImageFault { number, offset: at };
+            let kind = *bytes.get(at).ok_or(fault(20))?;
+            let in_place = self.has_place(kind);
+            let length = match image_body_length(kind) {
+                Some(length) if in_place || self.flaw == Flaw::BodyBeforeKind => length,
+                _ => return Err(fault(21)),
+            };
+            let body = bytes.get(at + 1..at + 1 + length).ok_or(fault(20))?;
+            if !in_place {
+                return Err(fault(21));
+            }
+            self.take(kind, body).map_err(fault)?;
+            at += 1 + length;
+            if kind == KIND_END {
+                return self.finish(bytes.len(), at);
+            }
+        }
+    }
+
+    /// Rules I6, I13 and I15: may a record of this kind stand here?
     fn has_place(&self, kind: u8) -> bool {
         let vms_missing = self.vms_read < self.config.vm_count;
         match kind {
             KIND_CORE => !self.seen_core,
             KIND_VM => self.seen_core && vms_missing,
             KIND_SLOT | KIND_END => self.seen_core && !vms_missing,
+            KIND_REGION => self.seen_core && self.region_has_place(vms_missing),
             _ => false,
+        }
+    }
+
+    /// Rule I15: behind the last VM record and before the first slot.
+    fn region_has_place(&self, vms_missing: bool) -> bool {
+        let seen_slot = self.config.slot_count > 0;
+        match self.flaw {
+            Flaw::RegionKindUnknown => false,
+            Flaw::RegionBeforeVmAccepted => !seen_slot,
+            Flaw::RegionBehindSlotAccepted => !vms_missing,
+            _ => !vms_missing && !seen_slot,
         }
     }
 
@@ -83,6 +116,10 @@ impl Reader {
                 let ticks = u16::from_le_bytes([body[1], body[2]]);
                 self.take_slot(Slot { owner: body[0], ticks })
             }
+            KIND_REGION => {
+                let (start, last) = (number_at(body, 2), number_at(body, 6));
+                self.take_region(Region { holder: body[0], permission: body[1], start, last })
+            }
             _ if self.config.every_vm_has_a_slot() => Ok(()),
             _ => Err(27),
         }
@@ -96,6 +133,14 @@ impl Reader {
         self.config.vm_count = vm_count;
         self.config.queue_size = queue_size;
         self.seen_core = true;
+        Ok(())
+    }
+
+    fn take_region(&mut self, region: Region) -> Result<(), u8> {
+        if let Some(fault) = region_fault(&self.config, &region, self.flaw) {
+            return Err(fault);
+        }
+        self.config.push_region(region);
         Ok(())
     }
 
@@ -123,9 +168,9 @@ impl Reader {
     }
 
     /// After the end record, which must be the last byte.
-    fn finish(self, length: usize, at: usize) -> Result<Config, ImageFault> {
+    fn finish(&self, length: usize, at: usize) -> Result<(), ImageFault> {
         if at == length {
-            return Ok(self.config);
+            return Ok(());
         }
         let slip = usize::from(self.flaw == Flaw::Fault28OffByOne);
         Err(ImageFault { number: 28, offset: at + slip })

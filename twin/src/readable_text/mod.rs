@@ -1,4 +1,5 @@
-//! The readable text: images and logs as lines, for `pack` and `unpack`.
+//! The readable text: images, logs and queries as lines, for the commands that pack and unpack.
 
 pub mod parse;
 pub mod print;
+mod words;

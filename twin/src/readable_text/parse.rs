@@ -1,10 +1,15 @@
 //! From the readable text to bytes: one record a line, comments from '#' to the line's end.
 
+use crate::access::folder::AccessFolder;
+use crate::access::query::Query;
 use crate::core::config::SPARE;
 use crate::core::event::Event;
 use crate::core::limits::MAX_REPORT_LOGS;
+use crate::core::region::Region;
 use crate::image::read::{KIND_CORE, KIND_END, KIND_SLOT, KIND_VM};
+use crate::image::write::region_record;
 use crate::log::write::write_record;
+use crate::readable_text::words::Words;
 use crate::report::folder::ReportFolder;
 use crate::run::frames::Case;
 
@@ -15,51 +20,82 @@ pub struct TextError {
     pub message: String,
 }
 
+/// What stands behind the image of a text: parts that each begin with a line of one word.
+struct Form {
+    word: &'static str,
+    plural: &'static str,
+    most: usize,
+    /// Appends the record of a line, by its first word and the others, to the bytes of its part.
+    push: fn(&str, &mut Words, &mut Vec<u8>) -> Result<(), String>,
+}
+
+const ONE_LOG: Form = Form { word: "log", plural: "logs", most: 1, push: push_event };
+const LOGS: Form = Form { most: MAX_REPORT_LOGS, ..ONE_LOG };
+const QUERIES: Form = Form { word: "queries", plural: "parts of queries", most: 1, push: push_query };
+
 /// The image and the log that a text describes.
 pub fn case_of(text: &str) -> Result<Case, TextError> {
-    let Parts { image, mut logs } = parts_of(text, 1)?;
-    Ok(Case { image, log: logs.pop().unwrap_or_default() })
+    let Parts { image, mut others } = parts_of(text, &ONE_LOG)?;
+    Ok(Case { image, log: others.pop().unwrap_or_default() })
 }
 
 /// The image and the logs that a text describes.
 pub fn report_folder_of(text: &str) -> Result<ReportFolder, TextError> {
-    let Parts { image, logs } = parts_of(text, MAX_REPORT_LOGS)?;
-    Ok(ReportFolder::of(&image, logs))
+    let Parts { image, others } = parts_of(text, &LOGS)?;
+    Ok(ReportFolder::of(&image, others))
 }
 
-/// The bytes of the image, and of each log in order.
+/// The image and the queries that a text describes.
+pub fn access_folder_of(text: &str) -> Result<AccessFolder, TextError> {
+    let Parts { image, mut others } = parts_of(text, &QUERIES)?;
+    Ok(AccessFolder::of(&image, &others.pop().unwrap_or_default()))
+}
+
+/// The bytes of the image, and of each part behind it in order.
 #[derive(Default)]
 struct Parts {
     image: Vec<u8>,
-    logs: Vec<Vec<u8>>,
+    others: Vec<Vec<u8>>,
 }
 
-fn parts_of(text: &str, most_logs: usize) -> Result<Parts, TextError> {
+fn parts_of(text: &str, form: &Form) -> Result<Parts, TextError> {
     let mut parts = Parts::default();
     for (index, line) in text.lines().enumerate() {
         let mut words = Words::of(line);
         let Some(word) = words.next() else {
             continue;
         };
-        let room = parts.logs.len() < most_logs;
-        let outcome = match (word, parts.logs.last_mut()) {
-            ("log", _) if room => {
-                parts.logs.push(Vec::new());
-                Ok(())
-            }
-            ("log", _) => Err(unknown(word, &format!("no more logs than {most_logs}"))),
-            ("raw", None) => push_raw(&mut words, &mut parts.image),
-            ("raw", Some(log)) => push_raw(&mut words, log),
-            (_, None) => push_image_record(word, &mut words, &mut parts.image),
-            (_, Some(log)) => event_of(word, &mut words).map(|event| write_record(event, log)),
-        };
+        let outcome = push_line(word, &mut words, form, &mut parts);
         let done = outcome.and_then(|()| words.finish());
         done.map_err(|message| TextError { line: index + 1, message })?;
     }
     Ok(parts)
 }
 
-fn push_image_record(word: &str, words: &mut Words, image: &mut Vec<u8>) -> Result<(), String> {
+/// Takes a line in: the beginning of a part, raw bytes, or a record of the image or of the last part.
+fn push_line(word: &str, words: &mut Words, form: &Form, parts: &mut Parts) -> Result<(), String> {
+    if word == form.word {
+        return begin_part(form, &mut parts.others);
+    }
+    match (word, parts.others.last_mut()) {
+        ("raw", None) => push_raw(words, &mut parts.image),
+        ("raw", Some(part)) => push_raw(words, part),
+        (_, None) => push_image_record(word, words, &mut parts.image, form.word),
+        (_, Some(part)) => (form.push)(word, words, part),
+    }
+}
+
+fn begin_part(form: &Form, parts: &mut Vec<Vec<u8>>) -> Result<(), String> {
+    let Form { word, plural, most, .. } = form;
+    if parts.len() == *most {
+        return Err(unknown(word, &format!("no more {plural} than {most}")));
+    }
+    parts.push(Vec::new());
+    Ok(())
+}
+
+/// The word that begins what stands behind the image is known to the message alone.
+fn push_image_record(word: &str, words: &mut Words, image: &mut Vec<u8>, behind: &str) -> Result<(), String> {
     match word {
         "core" => {
             let (vms, queue) = (words.labelled("vms", 8)?, words.labelled("queue", 8)?);
@@ -71,6 +107,7 @@ fn push_image_record(word: &str, words: &mut Words, image: &mut Vec<u8>) -> Resu
             image.extend(entry.to_le_bytes());
             image.extend(handler.to_le_bytes());
         }
+        "region" => image.extend(region_record(&region_of(words)?, false)),
         "slot" => {
             let owner = slot_owner(words)?;
             let ticks = words.labelled("ticks", 16)? as u16;
@@ -78,9 +115,15 @@ fn push_image_record(word: &str, words: &mut Words, image: &mut Vec<u8>) -> Resu
             image.extend(ticks.to_le_bytes());
         }
         "end" => image.push(KIND_END),
-        _ => return Err(unknown(word, "core, vm, slot, end, raw or log")),
+        _ => return Err(unknown(word, &format!("core, vm, region, slot, end, raw or {behind}"))),
     }
     Ok(())
+}
+
+fn region_of(words: &mut Words) -> Result<Region, String> {
+    let (holder, permission) = (words.labelled("vm", 8)? as u8, words.labelled("permission", 8)? as u8);
+    let (start, last) = (words.labelled("start", 32)?, words.labelled("last", 32)?);
+    Ok(Region { holder, permission, start, last })
 }
 
 fn slot_owner(words: &mut Words) -> Result<u8, String> {
@@ -90,6 +133,20 @@ fn slot_owner(words: &mut Words) -> Result<u8, String> {
         Some(other) => Err(unknown(other, "'vm NUMBER' or 'spare'")),
         None => Err(String::from("the line ends where 'vm NUMBER' or 'spare' should stand")),
     }
+}
+
+fn push_event(word: &str, words: &mut Words, log: &mut Vec<u8>) -> Result<(), String> {
+    event_of(word, words).map(|event| write_record(event, log))
+}
+
+fn push_query(word: &str, words: &mut Words, queries: &mut Vec<u8>) -> Result<(), String> {
+    if word != "query" {
+        return Err(unknown(word, "query or raw"));
+    }
+    let (vm, way) = (words.labelled("vm", 8)? as u8, words.labelled("way", 8)? as u8);
+    let (address, length) = (words.labelled("address", 32)?, words.labelled("length", 32)?);
+    queries.extend(Query { vm, way, address, length }.record());
+    Ok(())
 }
 
 fn event_of(word: &str, words: &mut Words) -> Result<Event, String> {
@@ -134,57 +191,4 @@ fn push_raw(words: &mut Words, bytes: &mut Vec<u8>) -> Result<(), String> {
 
 fn unknown(word: &str, known: &str) -> String {
     format!("'{word}' is not known here; expected {known}")
-}
-
-/// The words of a line, without its comment.
-struct Words<'a> {
-    rest: std::str::SplitWhitespace<'a>,
-}
-
-impl<'a> Words<'a> {
-    fn of(line: &'a str) -> Words<'a> {
-        let content = line.split('#').next().unwrap_or("");
-        Words { rest: content.split_whitespace() }
-    }
-
-    /// A fixed word and the number behind it.
-    fn labelled(&mut self, label: &str, bits: u32) -> Result<u32, String> {
-        match self.next() {
-            Some(word) if word == label => self.number(label, bits),
-            Some(word) => Err(format!("'{word}' stands where '{label}' should")),
-            None => Err(format!("the line ends where '{label}' should stand")),
-        }
-    }
-
-    /// A decimal number, or a hexadecimal one after 0x, of so many bits at most.
-    fn number(&mut self, label: &str, bits: u32) -> Result<u32, String> {
-        let word = self.next().ok_or_else(|| format!("the number after '{label}' is missing"))?;
-        let (digits, base) = match word.strip_prefix("0x") {
-            Some(digits) => (digits, 16),
-            None => (word, 10),
-        };
-        if digits.is_empty() || !digits.chars().all(|digit| digit.is_digit(base)) {
-            return Err(format!("'{word}' after '{label}' is not a number"));
-        }
-        match u64::from_str_radix(digits, base) {
-            Ok(number) if number >> bits == 0 => Ok(number as u32),
-            _ => Err(format!("{word} after '{label}' does not fit in {bits} bits")),
-        }
-    }
-
-    /// The line must end here.
-    fn finish(&mut self) -> Result<(), String> {
-        match self.next() {
-            Some(word) => Err(format!("'{word}' stands behind the end of the record")),
-            None => Ok(()),
-        }
-    }
-}
-
-impl<'a> Iterator for Words<'a> {
-    type Item = &'a str;
-
-    fn next(&mut self) -> Option<&'a str> {
-        self.rest.next()
-    }
 }

@@ -1,10 +1,13 @@
-//! From bytes to the readable text: the lines of an image and of a log.
+//! From bytes to the readable text: the lines of an image, of a log and of access queries.
 
 use std::fmt::Write;
 
+use crate::access::folder::AccessFolder;
+use crate::access::query::{queries_of, Query};
 use crate::core::config::SPARE;
 use crate::core::event::Event;
-use crate::image::read::{image_body_length, KIND_CORE, KIND_END, KIND_SLOT, KIND_VM};
+use crate::core::flaw::Flaw;
+use crate::image::read::{image_body_length, KIND_CORE, KIND_END, KIND_REGION, KIND_SLOT, KIND_VM};
 use crate::log::read::{read_record, Record};
 use crate::report::folder::ReportFolder;
 use crate::run::frames::Case;
@@ -17,6 +20,20 @@ pub fn text_of(case: &Case) -> String {
 /// The text of an image and the logs that a report reads.
 pub fn report_folder_text(folder: &ReportFolder) -> String {
     text_of_parts(folder.image_bytes(), folder.listed().iter().map(Vec::as_slice))
+}
+
+/// The text of an image and its access queries. Packing it gives the same bytes again, whatever they are.
+pub fn access_folder_text(folder: &AccessFolder) -> String {
+    let mut text = String::new();
+    print_image(&mut text, folder.image_bytes());
+    text.push_str("\nqueries\n");
+    let (queries, rest) = queries_of(folder.query_bytes(), Flaw::None);
+    for query in queries {
+        text.push_str(&query_line(query));
+        text.push('\n');
+    }
+    print_raw(&mut text, rest);
+    text
 }
 
 fn text_of_parts<'a>(image: &[u8], logs: impl IntoIterator<Item = &'a [u8]>) -> String {
@@ -57,6 +74,10 @@ fn image_line(kind: u8, body: &[u8]) -> String {
             }
         }
         KIND_END => String::from("end"),
+        KIND_REGION => {
+            let (holder, permission) = (body[0], body[1]);
+            format!("region vm {holder} permission {permission} start {:#x} last {:#x}", long(2), long(6))
+        }
         _ => String::new(),
     }
 }
@@ -91,6 +112,12 @@ pub fn event_line(event: Event) -> String {
         Event::Write { offset, value } => format!("write offset {offset} value {value:#x}"),
         Event::Fault { code, data } => format!("fault code {code} data {data:#x}"),
     }
+}
+
+/// The line of a query.
+pub fn query_line(query: Query) -> String {
+    let Query { vm, way, address, length } = query;
+    format!("query vm {vm} way {way} address {address:#x} length {length}")
 }
 
 /// Bytes that are no whole record, sixteen a line.

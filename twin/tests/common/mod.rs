@@ -8,6 +8,7 @@ use std::process::Command;
 use twin::core::config::{Config, Slot, VmPlace, SPARE};
 use twin::core::event::Event;
 use twin::core::flaw::Flaw;
+use twin::core::region::Region;
 use twin::core::Core;
 use twin::image::write::image_bytes;
 use twin::log::write::log_of;
@@ -22,6 +23,17 @@ pub fn worked_config() -> Config {
     config.slots[0] = Slot { owner: 0, ticks: 2 };
     config.slots[1] = Slot { owner: 1, ticks: 1 };
     config.slots[2] = Slot { owner: SPARE, ticks: 1 };
+    config
+}
+
+pub fn region(holder: u8, permission: u8, start: u32, last: u32) -> Region {
+    Region { holder, permission, start, last }
+}
+
+/// The worked configuration with these regions, legal or not.
+pub fn with_regions(regions: &[Region]) -> Config {
+    let mut config = worked_config();
+    regions.iter().for_each(|region| config.push_region(*region));
     config
 }
 

@@ -23,7 +23,7 @@ same-length-2 : tie.Need-same-length-2
 same-length-2 c = search needs
 
 returns : tie.Need-returns
-returns c = λ owners durations handlers. start-does _ _ _ _ _ _ _ _ _ (c .before .before .before .before .before .before .before .before .before .before .start-all .ensures) (c .before .before .address-at .ensures) (c .before .started .ensures) (c .quiet .ensures)
+returns c = λ owners durations handlers regions. start-does _ _ _ _ _ _ _ _ _ (c .before .before .before .before .before .before .before .before .before .before .start-all .ensures) (c .before .before .address-at .ensures) (c .before .started .ensures) (c .quiet .ensures)
 
 pub start-spec : {M : Type 1} → statement M
 start-spec =

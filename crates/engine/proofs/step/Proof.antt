@@ -24,7 +24,7 @@ same-length-2 : tie.Need-same-length-2
 same-length-2 c = search needs
 
 returns : tie.Need-returns
-returns c = moves-not _ _ _ _ _ _ _ _ _ (c .before .before .before .before .before .before .before .before .place-of .ensures) (c .before .before .before .before .before .ready-at .ensures) (c .before .before .before .before .row-of .ensures) (c .before .before .before .if1 .taken) (c .refusing .ensures)
+returns c = λ regions. moves-not _ _ _ _ _ _ _ _ _ (c .before .before .before .before .before .before .before .before .place-of .ensures) (c .before .before .before .before .before .ready-at .ensures) (c .before .before .before .before .row-of .ensures) (c .before .before .before .if1 .taken) (c .refusing .ensures)
 
 enum-known-e : tie.Need-enum-known-e
 enum-known-e c = search needs
@@ -48,7 +48,7 @@ same-length-4 : tie.Need-same-length-4
 same-length-4 c = search needs
 
 returns-2 : tie.Need-returns-2
-returns-2 c = moves-by _ _ _ _ _ _ _ _ _ (c .before .before .before .before .before .before .before .before .before .before .before .before .before .before .before .place-of .ensures) (c .before .before .before .before .before .before .before .before .before .before .before .before .ready-at .ensures) (c .before .before .before .before .before .before .before .before .before .before .before .row-of .ensures) _ _ _ (c .before .before .before .before .before .before .before .before .before .before .if1 .left) (c .before .before .before .before .before .before .before .before .e .given .1) (c .before .before .before .before .tick .ensures _)
+returns-2 c = λ regions. moves-by _ _ _ _ _ _ _ _ _ (c .before .before .before .before .before .before .before .before .before .before .before .before .before .before .before .place-of .ensures) (c .before .before .before .before .before .before .before .before .before .before .before .before .ready-at .ensures) (c .before .before .before .before .before .before .before .before .before .before .before .row-of .ensures) _ _ _ (c .before .before .before .before .before .before .before .before .before .before .if1 .left) (c .before .before .before .before .before .before .before .before .e .given .1) (c .before .before .before .before .tick .ensures _ regions)
 
 same-length-5 : tie.Need-same-length-5
 same-length-5 c = search needs
@@ -57,7 +57,7 @@ same-length-6 : tie.Need-same-length-6
 same-length-6 c = search needs
 
 returns-3 : tie.Need-returns-3
-returns-3 c = moves-by _ _ _ _ _ _ _ _ _ (c .before .before .before .before .before .before .before .before .before .before .before .before .before .before .place-of .ensures) (c .before .before .before .before .before .before .before .before .before .before .before .ready-at .ensures) (c .before .before .before .before .before .before .before .before .before .before .row-of .ensures) _ _ _ (c .before .before .before .before .before .before .before .before .before .if1 .left) (c .before .before .before .before .before .before .before .enum-told .given .1) (c .before .before .before .before .start .ensures _ _ _)
+returns-3 c = λ regions. moves-by _ _ _ _ _ _ _ _ _ (c .before .before .before .before .before .before .before .before .before .before .before .before .before .before .place-of .ensures) (c .before .before .before .before .before .before .before .before .before .before .before .ready-at .ensures) (c .before .before .before .before .before .before .before .before .before .before .row-of .ensures) _ _ _ (c .before .before .before .before .before .before .before .before .before .if1 .left) (c .before .before .before .before .before .before .before .enum-told .given .1) (c .before .before .before .before .start .ensures _ _ _ regions)
 
 same-length-7 : tie.Need-same-length-7
 same-length-7 c = search needs
@@ -66,7 +66,7 @@ same-length-8 : tie.Need-same-length-8
 same-length-8 c = search needs
 
 returns-4 : tie.Need-returns-4
-returns-4 c = moves-by _ _ _ _ _ _ _ _ _ (c .before .before .before .before .before .before .before .before .before .before .before .before .before .place-of .ensures) (c .before .before .before .before .before .before .before .before .before .before .ready-at .ensures) (c .before .before .before .before .before .before .before .before .before .row-of .ensures) _ _ _ (c .before .before .before .before .before .before .before .before .if1 .left) refl (c .before .before .before .before .change .ensures _ _)
+returns-4 c = λ regions. moves-by _ _ _ _ _ _ _ _ _ (c .before .before .before .before .before .before .before .before .before .before .before .before .before .place-of .ensures) (c .before .before .before .before .before .before .before .before .before .before .ready-at .ensures) (c .before .before .before .before .before .before .before .before .before .row-of .ensures) _ _ _ (c .before .before .before .before .before .before .before .before .if1 .left) refl (c .before .before .before .before .change .ensures _ _ regions)
 
 pub step-spec : {M : Type 1} → statement M
 step-spec =

@@ -1,4 +1,4 @@
--- Three runs, one behind the other.
+-- Four runs, one behind the other.
 use borrow.Author.Needs.{needs}
 use Rattle.image_writer.proofs.Puts.{records-put}
 use Rattle.image_writer.proofs.put_records.Statement.{statement}
@@ -10,14 +10,17 @@ put-core-requires c κs = search needs
 put-vms-requires : tie.Need-put-vms-requires
 put-vms-requires c κs = search needs
 
-cast-put-slots : tie.Need-cast-put-slots
-cast-put-slots c = search needs
+cast-put-held : tie.Need-cast-put-held
+cast-put-held c = search needs
 
-mul-put-slots : tie.Need-mul-put-slots
-mul-put-slots c = search needs
+mul-put-held : tie.Need-mul-put-held
+mul-put-held c = search needs
 
-add-put-slots : tie.Need-add-put-slots
-add-put-slots c = search needs
+add-put-held : tie.Need-add-put-held
+add-put-held c = search needs
+
+put-held-requires : tie.Need-put-held-requires
+put-held-requires c κs = search needs
 
 put-slots-requires : tie.Need-put-slots-requires
 put-slots-requires c κs = search needs
@@ -26,7 +29,7 @@ same-length : tie.Need-same-length
 same-length c = search needs
 
 returns : tie.Need-returns
-returns c = records-put (c .before .before .before .before .before .before .before .before .before .before .before .before .before .before .before .before .before .before .before .before .before .args .c) _ _ _ _ (c .before .before .before .before .before .before .before .before .before .before .before .before .before .before .put-core .ensures) (c .before .before .before .before .before .before .before .before .put-vms .ensures) (c .before .before .put-slots .ensures)
+returns c = records-put (c .before .before .before .before .before .before .before .before .before .before .before .before .before .before .before .before .before .before .before .before .before .before .before .before .before .args .c) _ _ _ _ _ _ (c .before .before .before .before .before .before .before .before .before .before .before .before .before .before .before .before .before .before .put-core .ensures) (c .before .before .before .before .before .before .before .before .before .before .before .before .put-vms .ensures) (c .before .before .before .before .before .before .before .before .put-held .ensures .0) (c .before .before .before .before .before .before .before .before .put-held .ensures .1) (c .before .before .put-slots .ensures)
 
 pub put-records-spec : {M : Type 1} → statement M
 put-records-spec =
@@ -34,9 +37,10 @@ put-records-spec =
     (tie.spec
     put-core-requires
     put-vms-requires
-    cast-put-slots
-    mul-put-slots
-    add-put-slots
+    cast-put-held
+    mul-put-held
+    add-put-held
+    put-held-requires
     put-slots-requires
     same-length
     returns)

@@ -20,13 +20,13 @@ same-length : tie.Need-same-length
 same-length c = search needs
 
 returns : tie.Need-returns
-returns c = write-short _ _ _ (c .before .before .before .before .before .before .before .legal .ensures) _ (c .before .before .before .before .before .size .ensures) (c .before .before .before .before .before .before .if1 .taken) _ _ (omega arith) (c .before .before .refused .ensures .0) (c .before .before .refused .ensures .1)
+returns c = write-short _ _ _ (c .before .before .before .before .before .before .before .before .legal .ensures) _ (c .before .before .before .before .before .size .ensures) (c .before .before .before .before .before .before .before .if1 .taken) _ _ (omega arith) (c .before .before .refused .ensures .0) (c .before .before .refused .ensures .1)
 
 sub-last : tie.Need-sub-last
 sub-last c = search needs
 
 put-records-requires : tie.Need-put-records-requires
-put-records-requires c κs = (let l = legal-is _ (sym (c .before .before .before .before .legal .ensures) ∙ c .before .before .before .if1 .taken) in (l .vms .1, l .table .1, omega (arith, c .before .before .size .ensures)))
+put-records-requires c κs = (let l = legal-is _ (sym (c .before .before .before .before .before .legal .ensures) ∙ c .before .before .before .before .if1 .taken) in (l .vms .1, l .regions .few, l .table .1, omega (arith, c .before .before .size .ensures)))
 
 put-byte-requires : tie.Need-put-byte-requires
 put-byte-requires c κs = search needs
@@ -38,7 +38,7 @@ same-length-2 : tie.Need-same-length-2
 same-length-2 c = search needs
 
 returns-2 : tie.Need-returns-2
-returns-2 c = write-done _ _ _ (c .before .before .before .before .before .before .before .before .before .before .before .legal .ensures) _ (c .before .before .before .before .before .before .before .before .before .size .ensures) (c .before .before .before .before .before .before .before .before .before .before .if1 .taken) _ _ (omega arith) (c .before .before .before .before .before .before .put-records .ensures) (c .before .before .put-byte .ensures)
+returns-2 c = write-done _ _ _ (c .before .before .before .before .before .before .before .before .before .before .before .before .legal .ensures) _ (c .before .before .before .before .before .before .before .before .before .size .ensures) (c .before .before .before .before .before .before .before .before .before .before .before .if1 .taken) _ _ (omega arith) (c .before .before .before .before .before .before .put-records .ensures) (c .before .before .put-byte .ensures)
 
 same-length-3 : tie.Need-same-length-3
 same-length-3 c = search needs

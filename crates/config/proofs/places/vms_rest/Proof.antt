@@ -5,12 +5,12 @@ use lib.Dec.{eqb}
 use lib.ListN.{getD}
 use mathlib.Core.Path.{refl, _≡_}
 use native.Mathlib.Omega.{arith}
+use Rattle.basis.proofs.Bounds.{past-more}
 use Rattle.basis.proofs.Laws.{every-end}
+use Rattle.basis.specs.Bounds.{emptyPast}
 use Rattle.basis.specs.Count.{every}
-use Rattle.config.proofs.Legality.{past-more}
 use Rattle.config.proofs.places.vms_rest.Statement.{statement}
 use Rattle.config.proofs.places.vms_rest.Tie as tie
-use Rattle.config.specs.Sizes.{emptyPast}
 
 abbrev Inv-loop : tie.InvT-loop
 Inv-loop count entries handlers bits₀ k₀ bits k = (k ≤ 8) × (eqb bits 0 ≡ every (λ j. emptyPast count j (getD entries j 0) (getD handlers j 0)) k)

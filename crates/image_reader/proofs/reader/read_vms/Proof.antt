@@ -67,11 +67,11 @@ loop-less c = search needs
 loop-again : tie.Need-loop-again Inv-loop μ-loop
 loop-again c = vm-more (c .before .before .before .before .before .before .before .loop .inv) (c .before .before .before .before .before .if1 .taken) (c .before .before .before .vm-fault .ensures) (c .before .before .if2 .left) (c .before .word .ensures) (c .word2 .ensures) refl
 
-read-slots-requires : tie.Need-read-slots-requires Inv-loop μ-loop
-read-slots-requires c κs = (c .before .before .loop .inv .inside, c .before .before .loop .inv .counted .1)
+read-regions-requires : tie.Need-read-regions-requires Inv-loop μ-loop
+read-regions-requires c κs = (c .before .before .loop .inv .inside, c .before .before .loop .inv .counted .1)
 
 returns-2 : tie.Need-returns-2 Inv-loop μ-loop
-returns-2 c = vms-none (c .before .before .before .loop .inv) (c .before .if1 .left) (c .read-slots .ensures)
+returns-2 c = vms-none (c .before .before .before .loop .inv) (c .before .if1 .left) (c .read-regions .ensures)
 
 pub read-vms-spec : {M : Type 1} → statement M
 read-vms-spec =
@@ -97,5 +97,5 @@ read-vms-spec =
     add-k
     loop-less
     loop-again
-    read-slots-requires
+    read-regions-requires
     returns-2)

@@ -1,0 +1,84 @@
+-- Overlapping regions (H6): a range that is clear of all others needs no look at the holders, and in a list in order all are.
+use Prim.Native.Nat.{suc, zero, ℕ, _+_, _-_, _<_, _≤_}
+use borrow.Author.Tests.{eq-eqb, eqb-true, le-leb, leb-true, lt-ltb, ltb-true}
+use lib.Dec.{eqb, leb, ltb}
+use lib.ListN.{getD}
+use mathlib.Core.Bool.{Bool, not, true}
+use mathlib.Core.List.{List}
+use mathlib.Core.Logic.{inl, inr, _⊎_, ⊎-elim}
+use mathlib.Core.Path.{refl, subst, sym, _∙_, _≡_}
+use native.Mathlib.Decide.{decLt}
+use native.Mathlib.Omega.{arith}
+use Rattle.basis.proofs.Laws.{both-left, both-of, both-right, either-is, either-left, either-right, every-is, every-of}
+use Rattle.basis.specs.Choice.{both, either}
+use Rattle.basis.specs.Count.{every}
+use Rattle.regions.specs.Beside.{agrees, agreesAll, clear, follows}
+use Rattle.regions.specs.Rules.{alikeAll, allAgree, apart, holderAt, lastAt, mayWrite, permissionAt, startAt}
+use Rattle.regions.specs.declared.Regions.{Regions}
+
+pub clear-alike : (n : ℕ) (hs ss ls : List ℕ) (h s l p : ℕ) (b : Bool) → b ≡ every (λ j. clear s l (getD ss j 0) (getD ls j 0)) n → b ≡ true
+    → true ≡ either (not (mayWrite p)) (alikeAll n hs ss ls h s l)
+unfolding alikeAll
+clear-alike n hs ss ls h s l p b e t =
+    sym (either-right (not (mayWrite p)) _ (every-of _ n (λ k m. either-right (eqb h (getD hs k 0)) _ (every-is _ n (sym e ∙ t) k m))))
+
+pub clear-agrees : (r : Regions) (h p s l : ℕ) (b : Bool) → r .count ≤ 64 → b ≡ every (λ j. clear s l (startAt r j) (lastAt r j)) (r .count) → b ≡ true
+    → true ≡ both (leb (r .count) 64) (agreesAll r h p s l)
+unfolding agreesAll
+clear-agrees r h p s l b few e t =
+    sym
+    (both-of (leb (r .count) 64) _ (le-leb (r .count) 64 few)
+    (every-of _ (r .count) (λ k m. either-right (both (not (mayWrite p)) (not (mayWrite (permissionAt r k)))) _ (either-right (eqb h (holderAt r k)) _ (every-is _ (r .count) (sym e ∙ t) k m)))))
+
+-- regions in the order of their addresses: each range is behind every earlier one, or the same
+module _ (n : ℕ) (ss ls : List ℕ) (o : every (λ k. leb (getD ss k 0) (getD ls k 0)) n ≡ true)
+    (c : every (λ k. follows (getD ss k 0) (getD ls k 0) (getD ss (k + 1) 0) (getD ls (k + 1) 0)) (n - 1) ≡ true) where
+  abbrev Behind : ℕ → ℕ → Type 0
+  Behind i j = (getD ls i 0 < getD ss j 0) ⊎ ((getD ss i 0 ≡ getD ss j 0) × (getD ls i 0 ≡ getD ls j 0))
+
+  next-behind : (k : ℕ) → k + 1 < n → Behind k (k + 1)
+  next-behind k h =
+      ⊎-elim
+      (λ e. inl (ltb-true (getD ls k 0) (getD ss (k + 1) 0) e))
+      (λ e. inr (eqb-true (getD ss k 0) (getD ss (k + 1) 0) (both-left (eqb (getD ss k 0) (getD ss (k + 1) 0)) _ e), eqb-true (getD ls k 0) (getD ls (k + 1) 0) (both-right (eqb (getD ss k 0) (getD ss (k + 1) 0)) _ e)))
+      (either-is (ltb (getD ls k 0) (getD ss (k + 1) 0)) _ (every-is _ (n - 1) c k (omega arith)))
+
+  behind : (i d : ℕ) → i + d < n → Behind i (i + d)
+  behind i zero h = let e : i + 0 ≡ i = omega arith in rw e (inr (refl, refl))
+  behind i (suc d) h =
+      let e : i + suc d ≡ i + d + 1 = omega arith in
+      let s : getD ss (i + d) 0 ≤ getD ls (i + d) 0 = leb-true (getD ss (i + d) 0) (getD ls (i + d) 0) (every-is _ n o (i + d) (omega arith)) in
+      rw e
+      (⊎-elim
+      (λ a. ⊎-elim (λ b. inl (omega arith)) (λ b. inl (omega (arith, b .0))) (next-behind (i + d) (omega arith)))
+      (λ a. ⊎-elim (λ b. inl (omega (arith, a .1))) (λ b. inr (a .0 ∙ b .0, a .1 ∙ b .1)) (next-behind (i + d) (omega arith)))
+      (behind i d (omega arith)))
+
+  behind-clear : (s l s′ l′ : ℕ) → (l < s′) ⊎ ((s ≡ s′) × (l ≡ l′)) → clear s l s′ l′ ≡ true
+  behind-clear s l s′ l′ =
+      ⊎-elim
+      (λ a. either-left (apart s l s′ l′) _ (either-right (ltb l′ s) _ (lt-ltb l s′ a)))
+      (λ a. either-right (apart s l s′ l′) _ (both-of (eqb s s′) _ (eq-eqb s s′ (a .0)) (eq-eqb l l′ (a .1))))
+
+  before-clear : (s l s′ l′ : ℕ) → (l′ < s) ⊎ ((s′ ≡ s) × (l′ ≡ l)) → clear s l s′ l′ ≡ true
+  before-clear s l s′ l′ =
+      ⊎-elim
+      (λ a. either-left (apart s l s′ l′) _ (either-left (ltb l′ s) _ (lt-ltb l′ s a)))
+      (λ a. either-right (apart s l s′ l′) _ (both-of (eqb s s′) _ (eq-eqb s s′ (sym (a .0))) (eq-eqb l l′ (sym (a .1)))))
+
+  order-clear : (i j : ℕ) → i < n → j < n → clear (getD ss i 0) (getD ls i 0) (getD ss j 0) (getD ls j 0) ≡ true
+  order-clear i j h l =
+      elim (decLt j i) [
+        | yes m ↦ (let e : j + (i - j) ≡ i = omega arith in before-clear (getD ss i 0) (getD ls i 0) (getD ss j 0) (getD ls j 0) (subst (Behind j) e (behind j (i - j) (omega arith))))
+        | no m ↦ (let e : i + (j - i) ≡ j = omega arith in behind-clear (getD ss i 0) (getD ls i 0) (getD ss j 0) (getD ls j 0) (subst (Behind i) e (behind i (j - i) (omega arith))))
+      ]
+
+pub order-agrees : (r : Regions) (a b t : Bool) → a ≡ every (λ k. leb (startAt r k) (lastAt r k)) (r .count)
+    → b ≡ every (λ k. follows (startAt r k) (lastAt r k) (startAt r (k + 1)) (lastAt r (k + 1))) (r .count - 1) → t ≡ both a b → t ≡ true → true ≡ allAgree r
+unfolding allAgree alikeAll
+order-agrees r a b t e f g h =
+    let all = sym g ∙ h in
+    sym
+    (every-of _ (r .count) (λ i l. either-right (not (mayWrite (permissionAt r i))) _
+    (every-of _ (r .count) (λ j m. either-right (eqb (holderAt r i) (holderAt r j)) _
+    (order-clear (r .count) (r .starts) (r .lasts) (sym e ∙ both-left a b all) (sym f ∙ both-right a b all) i j l m)))))

@@ -1,0 +1,17 @@
+-- The walk over the lent lists is the definition; a list of more than 64 regions is refused.
+use borrow.Author.Needs.{needs}
+use Rattle.basis.proofs.Laws.{ways}
+use Rattle.regions.proofs.Regions.allows.Statement.{statement}
+use Rattle.regions.proofs.Regions.allows.Tie as tie
+
+allowed-requires : tie.Need-allowed-requires
+allowed-requires c κs = search needs
+
+returns : tie.Need-returns
+returns c = search ways
+
+returns-2 : tie.Need-returns-2
+returns-2 c = search ways
+
+pub allows-spec : {M : Type 1} → statement M
+allows-spec = tie.close (tie.spec allowed-requires returns returns-2)

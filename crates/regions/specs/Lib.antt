@@ -1,0 +1,5 @@
+pub mod Rules
+pub mod Beside
+pub mod Access
+pub mod Cover
+pub mod Ranges
