@@ -19,7 +19,7 @@ use Rattle.image_reader.specs.Reader.{readImage}
 use Rattle.image_reader.specs.declared.Reading.{Reading}
 use Rattle.lines.specs.Text.{cutText, refusedText}
 use Rattle.lines.specs.Words.{longLine}
-use Rattle.regions.specs.Access.{allowed}
+use Rattle.grants.specs.Access.{allowed}
 use Rattle.text.specs.Puts.{Puts}
 
 -- H10: what is asked first

@@ -2,7 +2,6 @@
 use basis::numbers;
 use basis::tests::both;
 use config::Config;
-use regions::Regions;
 ghost use Prim.Native.Nat.{_*_, _+_, _/_, _≤_};
 ghost use lib.ListN.{getD, length};
 ghost use mathlib.Core.Bool.{true};
@@ -68,7 +67,7 @@ fn answer(config: Config, tested: bool, queries: &[u8], at: usize) -> bool
         let regions = config.regions;
         let address = numbers::word_inside(queries, at + 2);
         let size = numbers::word_inside(queries, at + 6);
-        return regions.allows(v, address, size, way);
+        return grants::allows(regions, v, address, size, way);
     }
     false
 }

@@ -38,7 +38,7 @@ of-write-one κs a x y s t p q = p ∙ sym q
 pub of-fault-one : OneAnswer 0 of-faults.ps of-faults.r of-fault.Post
 of-fault-one κs a x y s t p q = p ∙ sym q
 
-pub parts-sound-one : OneAnswer 8 parts-sounds.ps parts-sounds.r parts-sound.Post
+pub parts-sound-one : OneAnswer 4 parts-sounds.ps parts-sounds.r parts-sound.Post
 parts-sound-one κs a x y s t p q = p ∙ sym q
 
 pub of-start-one : OneAnswer 0 of-starts.ps of-starts.r of-start.Post

@@ -19,10 +19,10 @@ ghost use Rattle.checks.specs.Standings.{noneIn, readyIn};
 ghost use Rattle.config.specs.Sizes.{configOf, isSpare};
 ghost use Rattle.guest.specs.Record.{lastStanding};
 ghost use Rattle.queue.specs.Entries.{paddedOf};
-ghost use Rattle.regions.specs.Rules.{listed};
+ghost use Rattle.regions.specs.Rules.{none};
 ghost use Rattle.table.specs.Position.{hasTicked, isStarted};
 
-// W1 to W12 of the parts of a state; the test of the configuration, the longest, comes last.
+// W1 to W12 of the parts of a state but for its regions; the test of the configuration, the longest, comes last.
 pub fn parts_sound(
     vms: [Vm; 8],
     clock: Clock,
@@ -35,13 +35,8 @@ pub fn parts_sound(
     handlers: &[u32; 8],
     owners: &[u8; 64],
     durations: &[u16; 64],
-    held: u8,
-    holders: &[u8; 64],
-    permissions: &[u8; 64],
-    starts: &[u32; 64],
-    lasts: &[u32; 64],
 ) -> bool
-    ensures { λ r. ⌜ r ≡ soundFrom (configOf count room slots (now (entries .entry)) (now (handlers .entry)) (now (owners .entry)) (now (durations .entry)) (listed held (now (holders .entry)) (now (permissions .entry)) (now (starts .entry)) (now (lasts .entry)))) clock running queue vms ⌝ }
+    ensures { λ r. ⌜ r ≡ soundFrom (configOf count room slots (now (entries .entry)) (now (handlers .entry)) (now (owners .entry)) (now (durations .entry)) none) clock running queue vms ⌝ }
 {
     let rest = vms::rest_fresh(vms, count);
     let standings = vms::standings(vms);
@@ -53,20 +48,7 @@ pub fn parts_sound(
     let runs = runner_sound(running, owner, is_ready(&standings, running));
     let known = numbers_known(clock, &standings);
     if all(rest, queued, begun, placed, runs, known) {
-        config::parts_legal(
-            count,
-            room,
-            slots,
-            entries,
-            handlers,
-            owners,
-            durations,
-            held,
-            holders,
-            permissions,
-            starts,
-            lasts,
-        )
+        config::parts_legal(count, room, slots, entries, handlers, owners, durations)
     } else {
         false
     }

@@ -6,15 +6,15 @@ use mathlib.Core.Bool.{Bool, false, true}
 use mathlib.Core.Logic.{inl, inr, _⊎_, ⊎-elim}
 use mathlib.Core.Path.{refl, sym, _∙_, _≡_}
 use Rattle.basis.proofs.Bounds.{empty-is, empty-of, within-is, within-of}
-use Rattle.basis.proofs.Laws.{both-left, both-of, both-right, either-is, either-left, either-right, every-is, every-of, pick-case, some-is, some-of}
+use Rattle.basis.proofs.Laws.{both-left, both-no, both-of, both-right, both-yes, either-is, either-left, either-right, every-is, every-of, pick-case, some-is, some-of}
 use Rattle.basis.specs.Bounds.{within}
 use Rattle.basis.specs.Choice.{both, either, pick}
 use Rattle.basis.specs.Count.{every}
 use Rattle.basis.specs.Nobody.{nobody}
 use Rattle.config.specs.Places.{placesFit}
-use Rattle.config.specs.Sizes.{Legal, durationAt, durationsFit, entryAt, handlerAt, hasSlot, lasts, legal, names, ownerAt, ownersFit, roomFits, slotsFit, slotsRest, vmsFit, vmsRest, vmsServed}
+use Rattle.config.specs.Sizes.{Legal, bare, durationAt, durationsFit, entryAt, handlerAt, hasSlot, lasts, legal, names, ownerAt, ownersFit, roomFits, slotsFit, slotsRest, vmsFit, vmsRest, vmsServed}
 use Rattle.config.specs.declared.Config.{Config}
-use Rattle.regions.proofs.Lawful.{lawful-is, lawful-of}
+use Rattle.regions.proofs.Lawful.{lawful-is, lawful-of, none-lawful}
 use Rattle.regions.specs.Rules.{lawful}
 
 -- two rules about each slot are one rule about each slot
@@ -30,31 +30,49 @@ every-both p q (suc n) = go (p n) (q n) (every p n) (every q n) (every-both p q 
     go false b c d e = refl
 
 -- the counts first, then the places: in this order the code tests what the definition says
-pub legal-law : (c : Config) (a b : Bool)
+pub legal-law : (c : Config) (a b : Bool) → lawful (c .count) (c .regions) ≡ true
     → a ≡ both (vmsFit c) (both (roomFits c) (slotsFit c))
-    → b ≡ both (lawful (c .count) (c .regions)) (placesFit (c .count) (c .slots) (c .entries) (c .handlers) (c .owners) (c .durations))
+    → b ≡ placesFit (c .count) (c .slots) (c .entries) (c .handlers) (c .owners) (c .durations)
     → both a b ≡ legal c
 unfolding legal durationsFit ownersFit vmsServed hasSlot vmsRest slotsRest placesFit
-legal-law c a b e f =
-    rw (e, f, ← every-both (λ k. lasts (ownerAt c k) (durationAt c k)) (λ k. names (c .count) (ownerAt c k)) (c .slots))
-    (go (vmsFit c) (roomFits c) (slotsFit c) (lawful (c .count) (c .regions)) (durationsFit c) (ownersFit c) (both (vmsServed c) (both (vmsRest c) (slotsRest c))))
+legal-law c a b l e f =
+    rw (e, f, l, ← every-both (λ k. lasts (ownerAt c k) (durationAt c k)) (λ k. names (c .count) (ownerAt c k)) (c .slots))
+    (go (vmsFit c) (roomFits c) (slotsFit c) (durationsFit c) (ownersFit c) (both (vmsServed c) (both (vmsRest c) (slotsRest c))))
   where
-    go : (x y z l u v w : Bool) → both (both x (both y z)) (both l (both (both u v) w)) ≡ both x (both y (both z (both l (both u (both v w)))))
-    go false y z l u v w = refl
-    go true false z l u v w = refl
-    go true true false l u v w = refl
-    go true true true false u v w = refl
-    go true true true true false v w = refl
-    go true true true true true v w = refl
+    go : (x y z u v w : Bool) → both (both x (both y z)) (both (both u v) w) ≡ both x (both y (both z (both u (both v w))))
+    go false y z u v w = refl
+    go true false z u v w = refl
+    go true true false u v w = refl
+    go true true true false v w = refl
+    go true true true true v w = refl
 
-pub legal-both : (c : Config) (a b : Bool)
+pub legal-both : (c : Config) (a b : Bool) → lawful (c .count) (c .regions) ≡ true
     → a ≡ both (vmsFit c) (both (roomFits c) (slotsFit c))
-    → b ≡ both (lawful (c .count) (c .regions)) (placesFit (c .count) (c .slots) (c .entries) (c .handlers) (c .owners) (c .durations))
+    → b ≡ placesFit (c .count) (c .slots) (c .entries) (c .handlers) (c .owners) (c .durations)
     → a ≡ true → b ≡ legal c
-legal-both c a b e f t = rw t at (legal-law c a b e f)
+legal-both c a b l e f t = rw t at (legal-law c a b l e f)
 
-pub legal-never : (c : Config) (a r : Bool) → a ≡ both (vmsFit c) (both (roomFits c) (slotsFit c)) → a ≡ false → r ≡ false → r ≡ legal c
-legal-never c a r e t f = f ∙ (rw t at (legal-law c a _ e refl))
+pub legal-never : (c : Config) (a r : Bool) → lawful (c .count) (c .regions) ≡ true → a ≡ both (vmsFit c) (both (roomFits c) (slotsFit c)) → a ≡ false → r ≡ false → r ≡ legal c
+legal-never c a r l e t f = f ∙ (rw t at (legal-law c a _ l e refl))
+
+-- the regions apart from the rest
+pub legal-apart : (c : Config) (x y : Bool) → x ≡ legal (bare c) → y ≡ lawful (c .count) (c .regions) → both y x ≡ legal c
+unfolding legal durationsFit ownersFit vmsServed hasSlot vmsRest slotsRest
+legal-apart c x y e f =
+    rw (e, f, none-lawful (c .count))
+    (go (vmsFit c) (roomFits c) (slotsFit c) (lawful (c .count) (c .regions)) (both (durationsFit c) (both (ownersFit c) (both (vmsServed c) (both (vmsRest c) (slotsRest c))))))
+  where
+    go : (v r s l w : Bool) → both l (both v (both r (both s w))) ≡ both v (both r (both s (both l w)))
+    go true true true l w = refl
+    go true true false l w = both-no l
+    go true false s l w = both-no l
+    go false r s l w = both-no l
+
+pub legal-yes : (c : Config) (x y : Bool) → x ≡ legal (bare c) → x ≡ true → y ≡ lawful (c .count) (c .regions) → y ≡ legal c
+legal-yes c x y e t f = sym (both-yes y) ∙ rw t at (legal-apart c x y e f)
+
+pub legal-no : (c : Config) (x : Bool) → x ≡ legal (bare c) → x ≡ false → false ≡ legal c
+legal-no c x e t = sym (both-no (lawful (c .count) (c .regions))) ∙ rw t at (legal-apart c x _ e refl)
 
 pub slots-64 : (count room slots : ℕ) (a : Bool) → a ≡ both (within 1 8 count) (both (leb room 16) (within 1 64 slots)) → a ≡ true → slots ≤ 64
 slots-64 count room slots a e t =

@@ -11,8 +11,8 @@ use Rattle.basis.specs.Choice.{both}
 use Rattle.config.proofs.Legality.{legal-is, legal-of}
 use Rattle.config.specs.Sizes.{Accessible, access, legal}
 use Rattle.config.specs.declared.Config.{Config}
-use Rattle.regions.proofs.Grants.{allowed-is, allowed-of, none-allowed}
-use Rattle.regions.specs.Access.{allowed}
+use Rattle.grants.proofs.Meaning.{allowed-is, allowed-of, none-allowed}
+use Rattle.grants.specs.Access.{allowed}
 
 module _ (c : Config) (v address length way : ℕ) where
   pub access-stranger : c .count ≤ v → false ≡ access c v address length way

@@ -17,7 +17,7 @@ allows-one κs a x y s t p q = p ∙ sym q
 pub legal-one : OneAnswer 0 legal-kinds.ps legal-kinds.r legal-reads.Post
 legal-one κs a x y s t p q = p ∙ sym q
 
-pub parts-one : OneAnswer 8 parts-kinds.ps parts-kinds.r parts-reads.Post
+pub parts-one : OneAnswer 4 parts-kinds.ps parts-kinds.r parts-reads.Post
 parts-one κs a x y s t p q = p ∙ sym q
 
 pub serves-one : OneAnswer 0 serves-kinds.ps serves-kinds.r serves-reads.Post

@@ -11,14 +11,18 @@ use Rattle.basis.specs.Choice.{both, either, pick}
 use Rattle.basis.specs.Count.{every, some}
 use Rattle.basis.specs.Nobody.{nobody}
 use Rattle.config.specs.declared.Config.{Config}
-use Rattle.regions.specs.Access.{Allowed, allowed}
-use Rattle.regions.specs.Rules.{Lawful, lawful}
+use Rattle.grants.specs.Access.{Allowed, allowed}
+use Rattle.regions.specs.Rules.{Lawful, lawful, none}
 use Rattle.regions.specs.declared.Regions.{Regions}
 
 -- a configuration by its parts
 abbrev pub configOf : ℕ → ℕ → ℕ → List ℕ → List ℕ → List ℕ → List ℕ → Regions → Config
 configOf count room slots entries handlers owners durations regions =
     record { count = count; room = room; slots = slots; entries = entries; handlers = handlers; owners = owners; durations = durations; regions = regions }
+
+-- without its regions
+abbrev pub bare : Config → Config
+bare c = configOf (c .count) (c .room) (c .slots) (c .entries) (c .handlers) (c .owners) (c .durations) none
 
 -- what stands at place k
 abbrev pub entryAt : Config → ℕ → ℕ

@@ -3,7 +3,6 @@
 mod numbers;
 mod places;
 
-use basis::tests::both;
 use regions::Regions;
 ghost use lib.Dec.{leb};
 ghost use mathlib.Core.Path.{_≡_};
@@ -11,7 +10,7 @@ ghost use Rattle.basis.specs.Bounds.{within};
 ghost use Rattle.basis.specs.Choice.{both};
 ghost use Rattle.config.specs.Ranges.{Typed};
 ghost use Rattle.config.specs.Sizes.{access, configOf, legal, vmsServed};
-ghost use Rattle.regions.specs.Rules.{listed};
+ghost use Rattle.regions.specs.Rules.{none};
 
 // A configuration. It has 8 places for VMs, 64 for slots (S7) and 64 for regions (H1).
 #[repr(C)]
@@ -46,12 +45,7 @@ impl Config {
         let handlers = self.handlers;
         let owners = self.owners;
         let durations = self.durations;
-        let regions = self.regions;
-        let holders = regions.holders;
-        let permissions = regions.permissions;
-        let starts = regions.starts;
-        let lasts = regions.lasts;
-        parts_legal(
+        if parts_legal(
             self.count,
             self.room,
             self.slots,
@@ -59,16 +53,15 @@ impl Config {
             &handlers,
             &owners,
             &durations,
-            regions.count,
-            &holders,
-            &permissions,
-            &starts,
-            &lasts,
-        )
+        ) {
+            let regions = self.regions;
+            return regions.lawful(self.count);
+        }
+        false
     }
 
     // The access query: whether VM v may access so many bytes from an address on, in one way (H8 to H11). A caller that knows the
-    // configuration to be legal asks its regions.
+    // configuration to be legal asks `grants::allows`.
     pub fn allows(self, v: u8, address: u32, length: u32, way: u8) -> bool
         ensures { λ r. ⌜ r ≡ access self v address length way ⌝ }
     {
@@ -78,7 +71,7 @@ impl Config {
         if regions::is_known(way) {
             if self.legal() {
                 let regions = self.regions;
-                return regions.allows(v, address, length, way);
+                return grants::allows(regions, v, address, length, way);
             }
             return false;
         }
@@ -104,7 +97,7 @@ pub fn typed(c: Config)
     ensures { λ _. ⌜ Typed c ⌝ }
 {}
 
-// The same test (S1 to S7, H1 to H6) of a configuration that is lent in its parts, so that nothing is copied.
+// The same test (S1 to S7) of a configuration without regions that is lent in its parts, so that nothing is copied.
 pub fn parts_legal(
     count: u8,
     room: u8,
@@ -113,18 +106,11 @@ pub fn parts_legal(
     handlers: &[u32; 8],
     owners: &[u8; 64],
     durations: &[u16; 64],
-    held: u8,
-    holders: &[u8; 64],
-    permissions: &[u8; 64],
-    starts: &[u32; 64],
-    lasts: &[u32; 64],
 ) -> bool
-    ensures { λ r. ⌜ r ≡ legal (configOf count room slots (now (entries .entry)) (now (handlers .entry)) (now (owners .entry)) (now (durations .entry)) (listed held (now (holders .entry)) (now (permissions .entry)) (now (starts .entry)) (now (lasts .entry)))) ⌝ }
+    ensures { λ r. ⌜ r ≡ legal (configOf count room slots (now (entries .entry)) (now (handlers .entry)) (now (owners .entry)) (now (durations .entry)) none) ⌝ }
 {
     if counts_fit(count, room, slots) {
-        let lawful = regions::parts_lawful(count, held, holders, permissions, starts, lasts);
-        let fit = places::all_fit(count, slots, entries, handlers, owners, durations);
-        both(lawful, fit)
+        places::all_fit(count, slots, entries, handlers, owners, durations)
     } else {
         false
     }

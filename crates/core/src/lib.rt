@@ -65,15 +65,10 @@ impl Core {
         let handlers = config.handlers;
         let owners = config.owners;
         let durations = config.durations;
-        let regions = config.regions;
-        let holders = regions.holders;
-        let permissions = regions.permissions;
-        let starts = regions.starts;
-        let lasts = regions.lasts;
         let vms = self.vms;
         let clock = self.clock;
         let queue = self.queue;
-        sound::parts_sound(
+        if sound::parts_sound(
             vms,
             clock,
             self.running,
@@ -85,12 +80,11 @@ impl Core {
             &handlers,
             &owners,
             &durations,
-            regions.count,
-            &holders,
-            &permissions,
-            &starts,
-            &lasts,
-        )
+        ) {
+            let regions = config.regions;
+            return regions.lawful(config.count);
+        }
+        false
     }
 
     // A refusal: the state as it was (R2, R3).

@@ -12,7 +12,7 @@ use Rattle.image_laws.specs.Vectors.{Row, rows}
 use Rattle.image_reader.specs.Reader.{readEnd, readImage, readRegions, readSlots, readVms, refused}
 use Rattle.image_reader.specs.Records.{coreFault, ownerFault, placeFault, regionFault, slotFault, vmFault}
 use Rattle.image_writer.specs.Writer.{image, recordsBytes}
-use Rattle.regions.specs.Access.{allowed, allows, granted, grantedAll}
+use Rattle.grants.specs.Access.{allowed, allows, granted, grantedAll}
 use Rattle.regions.specs.Beside.{agreesAll}
 use Rattle.regions.specs.Rules.{alikeAll, allAgree, bytesRest, fewEach, held, holdersFit, kept, lawful, permissionsFit, rangesFit, wordsRest}
 

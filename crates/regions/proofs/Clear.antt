@@ -1,5 +1,5 @@
 -- Overlapping regions (H6): a range that is clear of all others needs no look at the holders, and in a list in order all are.
-use Prim.Native.Nat.{suc, zero, ℕ, _+_, _-_, _<_, _≤_}
+use Prim.Native.Nat.{suc, zero, ℕ, _*_, _+_, _-_, _/_, _<_, _≤_}
 use borrow.Author.Tests.{eq-eqb, eqb-true, le-leb, leb-true, lt-ltb, ltb-true}
 use lib.Dec.{eqb, leb, ltb}
 use lib.ListN.{getD}
@@ -9,18 +9,12 @@ use mathlib.Core.Logic.{inl, inr, _⊎_, ⊎-elim}
 use mathlib.Core.Path.{refl, subst, sym, _∙_, _≡_}
 use native.Mathlib.Decide.{decLt}
 use native.Mathlib.Omega.{arith}
-use Rattle.basis.proofs.Laws.{both-left, both-of, both-right, either-is, either-left, either-right, every-is, every-of}
+use Rattle.basis.proofs.Laws.{both-left, both-of, both-right, either-is, either-left, either-right, eqb-swap, every-is, every-of}
 use Rattle.basis.specs.Choice.{both, either}
 use Rattle.basis.specs.Count.{every}
 use Rattle.regions.specs.Beside.{agrees, agreesAll, clear, follows}
 use Rattle.regions.specs.Rules.{alikeAll, allAgree, apart, holderAt, lastAt, mayWrite, permissionAt, startAt}
 use Rattle.regions.specs.declared.Regions.{Regions}
-
-pub clear-alike : (n : ℕ) (hs ss ls : List ℕ) (h s l p : ℕ) (b : Bool) → b ≡ every (λ j. clear s l (getD ss j 0) (getD ls j 0)) n → b ≡ true
-    → true ≡ either (not (mayWrite p)) (alikeAll n hs ss ls h s l)
-unfolding alikeAll
-clear-alike n hs ss ls h s l p b e t =
-    sym (either-right (not (mayWrite p)) _ (every-of _ n (λ k m. either-right (eqb h (getD hs k 0)) _ (every-is _ n (sym e ∙ t) k m))))
 
 pub clear-agrees : (r : Regions) (h p s l : ℕ) (b : Bool) → r .count ≤ 64 → b ≡ every (λ j. clear s l (startAt r j) (lastAt r j)) (r .count) → b ≡ true
     → true ≡ both (leb (r .count) 64) (agreesAll r h p s l)
@@ -73,12 +67,38 @@ module _ (n : ℕ) (ss ls : List ℕ) (o : every (λ k. leb (getD ss k 0) (getD 
         | no m ↦ (let e : i + (j - i) ≡ j = omega arith in behind-clear (getD ss i 0) (getD ls i 0) (getD ss j 0) (getD ls j 0) (subst (Behind i) e (behind i (j - i) (omega arith))))
       ]
 
-pub order-agrees : (r : Regions) (a b t : Bool) → a ≡ every (λ k. leb (startAt r k) (lastAt r k)) (r .count)
-    → b ≡ every (λ k. follows (startAt r k) (lastAt r k) (startAt r (k + 1)) (lastAt r (k + 1))) (r .count - 1) → t ≡ both a b → t ≡ true → true ≡ allAgree r
+-- where no two ranges clash, all agree
+pairs-agree : (r : Regions) → ((i j : ℕ) → i < r .count → j < r .count → clear (startAt r i) (lastAt r i) (startAt r j) (lastAt r j) ≡ true) → true ≡ allAgree r
 unfolding allAgree alikeAll
-order-agrees r a b t e f g h =
-    let all = sym g ∙ h in
+pairs-agree r f =
     sym
     (every-of _ (r .count) (λ i l. either-right (not (mayWrite (permissionAt r i))) _
-    (every-of _ (r .count) (λ j m. either-right (eqb (holderAt r i) (holderAt r j)) _
-    (order-clear (r .count) (r .starts) (r .lasts) (sym e ∙ both-left a b all) (sym f ∙ both-right a b all) i j l m)))))
+    (every-of _ (r .count) (λ j m. either-right (eqb (holderAt r i) (holderAt r j)) _ (f i j l m)))))
+
+pub order-agrees : (r : Regions) (a b t : Bool) → a ≡ every (λ k. leb (startAt r k) (lastAt r k)) (r .count)
+    → b ≡ every (λ k. follows (startAt r k) (lastAt r k) (startAt r (k + 1)) (lastAt r (k + 1))) (r .count - 1) → t ≡ both a b → t ≡ true → true ≡ allAgree r
+order-agrees r a b t e f g h =
+    let all = sym g ∙ h in
+    pairs-agree r (order-clear (r .count) (r .starts) (r .lasts) (sym e ∙ both-left a b all) (sym f ∙ both-right a b all))
+
+clear-swap : (s l s′ l′ : ℕ) → clear s l s′ l′ ≡ true → clear s′ l′ s l ≡ true
+clear-swap s l s′ l′ e =
+    ⊎-elim
+    (λ h. either-left (apart s′ l′ s l) _ (⊎-elim (λ i. either-right (ltb l s′) _ i) (λ i. either-left (ltb l s′) _ i) (either-is (ltb l′ s) (ltb l s′) h)))
+    (λ h. either-right (apart s′ l′ s l) _ (both-of (eqb s′ s) _ (eqb-swap s′ s ∙ both-left (eqb s s′) _ h) (eqb-swap l′ l ∙ both-right (eqb s s′) _ h)))
+    (either-is (apart s l s′ l′) _ e)
+
+-- each held against those before it, by eight
+pub clear-pairs : (r : Regions) (t : Bool)
+    → t ≡ every (λ i. every (λ j. clear (startAt r i) (lastAt r i) (startAt r j) (lastAt r j)) ((i / 8 + 1) * 8)) (r .count) → t ≡ true → true ≡ allAgree r
+clear-pairs r t e h =
+    pairs-agree r
+    (λ i j l m. elim (decLt i j) [
+      | yes o ↦ clear-swap (startAt r j) (lastAt r j) (startAt r i) (lastAt r i) (below j i m (omega arith))
+      | no o ↦ below i j l (omega arith)
+    ])
+  where
+    below : (i j : ℕ) → i < r .count → j ≤ i → clear (startAt r i) (lastAt r i) (startAt r j) (lastAt r j) ≡ true
+    below i j l o =
+        every-is (λ k. clear (startAt r i) (lastAt r i) (startAt r k) (lastAt r k)) ((i / 8 + 1) * 8)
+        (every-is (λ k. every (λ q. clear (startAt r k) (lastAt r k) (startAt r q) (lastAt r q)) ((k / 8 + 1) * 8)) (r .count) (sym e ∙ h) i l) j (omega arith)

@@ -3,7 +3,7 @@ use Prim.Native.Nat.{ℕ, _<_, _≤_}
 use borrow.Author.Tests.{eq-eqb, eqb-false, eqb-true, le-leb, le-ltb, leb-true, lt-ltb, ltb-false, ltb-true, ne-eqb}
 use lib.Dec.{eqb, ltb}
 use mathlib.Core.Bool.{Bool, false, not, true}
-use mathlib.Core.Path.{refl, _≡_}
+use mathlib.Core.Path.{refl, _∙_, _≡_}
 use Rattle.basis.proofs.Bounds.{rest-is, rest-of, within-is, within-of}
 use Rattle.basis.proofs.Laws.{both-left, both-of, both-right, every-is, every-of}
 use Rattle.basis.specs.Bounds.{emptyRest, zeros}
@@ -105,3 +105,9 @@ lawful-of vms r a =
 pub none-lawful : (vms : ℕ) → lawful vms none ≡ true
 unfolding lawful kept holdersFit permissionsFit rangesFit fewEach held howMany allAgree bytesRest wordsRest every zeros
 none-lawful vms = refl
+
+-- H1: regions of which there are none are lawful where all places hold zero
+pub lawful-empty : (vms : ℕ) (r : Regions) (a b t : Bool) → r .count ≡ 0 → a ≡ both (emptyRest 0 (r .holders)) (emptyRest 0 (r .permissions)) → b ≡ both (emptyRest 0 (r .starts)) (emptyRest 0 (r .lasts))
+    → t ≡ both a b → t ≡ lawful vms r
+unfolding lawful kept holdersFit permissionsFit rangesFit fewEach held howMany allAgree bytesRest wordsRest every
+lawful-empty vms r a b t z e f g = g ∙ rw (e, f, z)

@@ -1,16 +1,14 @@
 -- No second answer fits (C2): each public function.
 use mathlib.Core.Path.{sym, _∙_}
 use Rattle.basis.proofs.Unique.{OneAnswer}
-use Rattle.regions.proofs.Regions.allows.Kinds as allows-kinds
-use Rattle.regions.proofs.Regions.allows.Reads as allows-reads
+use Rattle.regions.proofs.Regions.lawful.Kinds as lawful-kinds
+use Rattle.regions.proofs.Regions.lawful.Reads as lawful-reads
 use Rattle.regions.proofs.Regions.none.Kinds as none-kinds
 use Rattle.regions.proofs.Regions.none.Reads as none-reads
 use Rattle.regions.proofs.has_room.Kinds as room-kinds
 use Rattle.regions.proofs.has_room.Reads as room-reads
 use Rattle.regions.proofs.overlap.agrees_all.Kinds as agrees-kinds
 use Rattle.regions.proofs.overlap.agrees_all.Reads as agrees-reads
-use Rattle.regions.proofs.parts_lawful.Kinds as parts-kinds
-use Rattle.regions.proofs.parts_lawful.Reads as parts-reads
 use Rattle.regions.proofs.rules.is_known.Kinds as known-kinds
 use Rattle.regions.proofs.rules.is_known.Reads as known-reads
 
@@ -18,11 +16,8 @@ use Rattle.regions.proofs.rules.is_known.Reads as known-reads
 pub none-one : OneAnswer 0 none-kinds.ps none-kinds.r none-reads.Post
 none-one κs a x y s t p q = p ∙ sym q
 
-pub allows-one : OneAnswer 0 allows-kinds.ps allows-kinds.r allows-reads.Post
-allows-one κs a x y s t p q = p ∙ sym q
-
-pub parts-one : OneAnswer 4 parts-kinds.ps parts-kinds.r parts-reads.Post
-parts-one κs a x y s t p q = p ∙ sym q
+pub lawful-one : OneAnswer 0 lawful-kinds.ps lawful-kinds.r lawful-reads.Post
+lawful-one κs a x y s t p q = p ∙ sym q
 
 pub room-one : OneAnswer 1 room-kinds.ps room-kinds.r room-reads.Post
 room-one κs a x y s t p q = p ∙ sym q

@@ -1,15 +1,15 @@
-// The memory regions of a configuration: the struct, the rules that they keep (H1 to H6), and who may access what (H8 to H11).
-mod access;
+// The memory regions of a configuration: the struct, and the rules that they keep (H1 to H6).
 mod overlap;
 mod rules;
 
+use basis::tests::both;
 pub use overlap::agrees_all;
 pub use rules::is_known;
 ghost use lib.Dec.{leb, ltb};
 ghost use mathlib.Core.Path.{_≡_};
+ghost use Rattle.basis.specs.Bounds.{emptyRest};
 ghost use Rattle.basis.specs.Choice.{both};
-ghost use Rattle.regions.specs.Access.{allowed};
-ghost use Rattle.regions.specs.Rules.{held, lawful, listed, none};
+ghost use Rattle.regions.specs.Rules.{held, lawful, none};
 
 // Regions in the order of their records (H1); what belongs to one region stands at the same place of each array.
 #[repr(C)]
@@ -47,49 +47,48 @@ impl Regions {
         }
     }
 
-    // Whether VM v may access so many bytes from an address on, in one way (H8 to H10), for a caller that knows the configuration
-    // to be legal, and the VM and the way to be known: neither is tested. No list is longer than 64 regions.
-    pub fn allows(self, v: u8, address: u32, length: u32, way: u8) -> bool
-        ensures { λ r. ⌜ r ≡ both (leb (self .count) 64) (allowed self v address length way) ⌝ }
+    // Whether the regions keep H1 to H6 in a configuration of so many VMs. Where there are none, nothing is lent, so that nothing is copied.
+    pub fn lawful(self, vms: u8) -> bool
+        ensures { λ r. ⌜ r ≡ lawful vms self ⌝ }
     {
         let n = self.count;
-        if n <= Regions::MOST {
-            let holders = self.holders;
-            let permissions = self.permissions;
-            let starts = self.starts;
-            let lasts = self.lasts;
-            access::allowed(
-                n,
-                &holders,
-                &permissions,
-                &starts,
-                &lasts,
-                v,
-                address,
-                length,
-                way,
-            )
-        } else {
-            false
+        if n == 0 {
+            return both(self.no_bytes(), self.no_words());
         }
+        if Regions::MOST < n {
+            return false;
+        }
+        let holders = self.holders;
+        let permissions = self.permissions;
+        let starts = self.starts;
+        let lasts = self.lasts;
+        rules::all_kept(vms, n, &holders, &permissions, &starts, &lasts)
     }
-}
 
-// Whether regions that are lent in their parts keep H1 to H6 in a configuration of so many VMs.
-pub fn parts_lawful(
-    vms: u8,
-    count: u8,
-    holders: &[u8; 64],
-    permissions: &[u8; 64],
-    starts: &[u32; 64],
-    lasts: &[u32; 64],
-) -> bool
-    ensures { λ r. ⌜ r ≡ lawful vms (listed count (now (holders .entry)) (now (permissions .entry)) (now (starts .entry)) (now (lasts .entry))) ⌝ }
-{
-    if count <= Regions::MOST {
-        rules::all_kept(vms, count, holders, permissions, starts, lasts)
-    } else {
-        false
+    // H1: whether no place has a holder or a permission.
+    fn no_bytes(self) -> bool
+        ensures { λ r. ⌜ r ≡ both (emptyRest 0 (self .holders)) (emptyRest 0 (self .permissions)) ⌝ }
+    {
+        let mut bits: u8 = 0;
+        let mut k: usize = 0;
+        while k < 64 {
+            bits = bits | (self.holders[k] | self.permissions[k]);
+            k = k + 1;
+        }
+        bits == 0
+    }
+
+    // H1: whether no place has an address.
+    fn no_words(self) -> bool
+        ensures { λ r. ⌜ r ≡ both (emptyRest 0 (self .starts)) (emptyRest 0 (self .lasts)) ⌝ }
+    {
+        let mut bits: u32 = 0;
+        let mut k: usize = 0;
+        while k < 64 {
+            bits = bits | (self.starts[k] | self.lasts[k]);
+            k = k + 1;
+        }
+        bits == 0
     }
 }
 

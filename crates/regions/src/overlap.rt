@@ -1,9 +1,10 @@
 // Regions that overlap (H6): all of a list beside each other, and a new one beside those of a list.
 use crate::Regions;
+use crate::rules;
 use basis::tests::both;
 use basis::tests::either;
 use basis::tests::fault32;
-ghost use Prim.Native.Nat.{_+_, _-_, _≤_};
+ghost use Prim.Native.Nat.{_*_, _+_, _-_, _/_, _≤_};
 ghost use lib.Dec.{leb};
 ghost use lib.ListN.{getD};
 ghost use mathlib.Core.Bool.{not};
@@ -13,8 +14,8 @@ ghost use Rattle.basis.specs.Count.{every};
 ghost use Rattle.regions.specs.Beside.{agrees, agreesAll, clear, follows};
 ghost use Rattle.regions.specs.Rules.{alikeAll, allAgree, listed, mayWrite};
 
-// H6. Where H4 holds (`ordered`) and the regions stand in the order of their addresses, one walk tells that all is well; else each
-// region that may be written is held against all.
+// H6. Where H4 holds (`ordered`) and the regions stand in the order of their addresses, one walk tells that all is well. Where most
+// may be written, it is enough that no two ranges clash. Else each region that may be written is held against all.
 pub fn all_agree(
     ordered: bool,
     count: u8,
@@ -30,7 +31,31 @@ pub fn all_agree(
     if both(ordered, sorted) {
         return true;
     }
+    if count / 2 < rules::held(Regions::WRITE, count, permissions) {
+        if all_clear(count, starts, lasts) {
+            return true;
+        }
+    }
     each_agrees(count, holders, permissions, starts, lasts)
+}
+
+// Whether no two regions overlap, but for regions of the same range. Each is held against those before it; places are taken by eight, so
+// that a walk needs no remainder, and those behind it that this adds are told twice.
+fn all_clear(count: u8, starts: &[u32; 64], lasts: &[u32; 64]) -> bool
+    requires { ⌜ count ≤ 64 ⌝ }
+    ensures { λ r. ⌜ r ≡ every (λ i. every (λ j. clear (getD (now (starts .entry)) i 0) (getD (now (lasts .entry)) i 0) (getD (now (starts .entry)) j 0) (getD (now (lasts .entry)) j 0)) ((i / 8 + 1) * 8)) count ⌝ }
+{
+    let n = count as usize;
+    let mut ok = true;
+    let mut i: usize = 0;
+    while i < n {
+        ok = both(
+            clear_of_all((i / 8 + 1) * 8, starts, lasts, starts[i], lasts[i]),
+            ok,
+        );
+        i = i + 1;
+    }
+    ok
 }
 
 // Whether each region is behind the one before it, or has the same range.
@@ -90,7 +115,7 @@ fn each_agrees(
     true
 }
 
-// One region beside every one. The first test does not look at the holders: it fails only where regions do overlap and differ.
+// One region beside every one.
 fn one_agrees(
     count: u8,
     holders: &[u8; 64],
@@ -104,21 +129,18 @@ fn one_agrees(
     requires { ⌜ count ≤ 64 ⌝ }
     ensures { λ r. ⌜ r ≡ either (not (mayWrite permission)) (alikeAll count (now (holders .entry)) (now (starts .entry)) (now (lasts .entry)) holder start last) ⌝ }
 {
-    if permission != Regions::WRITE {
-        return true;
+    if permission == Regions::WRITE {
+        alike_all(count, holders, starts, lasts, holder, start, last)
+    } else {
+        true
     }
-    if clear_of_all(count, starts, lasts, start, last) {
-        return true;
-    }
-    alike_all(count, holders, starts, lasts, holder, start, last)
 }
 
-// Whether no region overlaps this one, but for regions of the same range.
-fn clear_of_all(count: u8, starts: &[u32; 64], lasts: &[u32; 64], start: u32, last: u32) -> bool
-    requires { ⌜ count ≤ 64 ⌝ }
-    ensures { λ r. ⌜ r ≡ every (λ j. clear start last (getD (now (starts .entry)) j 0) (getD (now (lasts .entry)) j 0)) count ⌝ }
+// Whether none of the first n regions overlaps this one, but for regions of the same range.
+fn clear_of_all(n: usize, starts: &[u32; 64], lasts: &[u32; 64], start: u32, last: u32) -> bool
+    requires { ⌜ n ≤ 64 ⌝ }
+    ensures { λ r. ⌜ r ≡ every (λ j. clear start last (getD (now (starts .entry)) j 0) (getD (now (lasts .entry)) j 0)) n ⌝ }
 {
-    let n = count as usize;
     let mut bits: u32 = 0;
     let mut k: usize = 0;
     while k < n {
@@ -183,7 +205,7 @@ pub fn agrees_all(
     if Regions::MOST < count {
         return false;
     }
-    if clear_of_all(count, starts, lasts, start, last) {
+    if clear_of_all(count as usize, starts, lasts, start, last) {
         return true;
     }
     agrees_each(

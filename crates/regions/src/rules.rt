@@ -110,7 +110,7 @@ fn few_each(count: u8, holders: &[u8; 64]) -> bool
     ok
 }
 
-// How many of the regions are VM v's.
+// How many of the regions have the number v here: as holders, those of VM v.
 pub fn held(v: u8, count: u8, holders: &[u8; 64]) -> u8
     requires { ⌜ count ≤ 64 ⌝ }
     ensures { λ r. ⌜ r ≡ held (now (holders .entry)) v count ⌝ }

@@ -12,10 +12,10 @@ use Rattle.regions.proofs.overlap.clear_of_all.Tie as tie
 use Rattle.regions.specs.Beside.{clear}
 
 abbrev Inv-loop : tie.InvT-loop
-Inv-loop count starts lasts start last n bits₀ k₀ bits k = (k ≤ n) × (eqb bits 0 ≡ every (λ j. clear start last (getD starts j 0) (getD lasts j 0)) k)
+Inv-loop n starts lasts start last bits₀ k₀ bits k = (k ≤ n) × (eqb bits 0 ≡ every (λ j. clear start last (getD starts j 0) (getD lasts j 0)) k)
 
 abbrev μ-loop : tie.MeasureT-loop
-μ-loop count starts lasts start last n bits₀ k₀ bits k = n - k
+μ-loop n starts lasts start last bits₀ k₀ bits k = n - k
 
 loop-holds : tie.Need-loop-holds Inv-loop μ-loop
 unfolding every

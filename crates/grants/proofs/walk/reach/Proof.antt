@@ -1,12 +1,12 @@
 use Prim.Native.Nat.{_-_, _≤_}
 use mathlib.Core.Path.{refl, sym, _∙_, _≡_}
 use native.Mathlib.Omega.{arith}
-use Rattle.regions.specs.Cover.{reach}
+use Rattle.grants.specs.Cover.{reach}
 use Rattle.regions.specs.Rules.{listed}
-use Rattle.regions.proofs.Walk.{reach-end, reach-hit, reach-pass}
+use Rattle.grants.proofs.Reaching.{reach-end, reach-hit, reach-pass}
 use borrow.Author.Needs.{needs}
-use Rattle.regions.proofs.access.reach.Statement.{statement}
-use Rattle.regions.proofs.access.reach.Tie as tie
+use Rattle.grants.proofs.walk.reach.Statement.{statement}
+use Rattle.grants.proofs.walk.reach.Tie as tie
 
 abbrev Inv-loop : tie.InvT-loop
 Inv-loop count holders permissions starts lasts v way at k₀ k = (k ≤ 64) × (reach (listed count holders permissions starts lasts) v way at k ≡ reach (listed count holders permissions starts lasts) v way at count)

@@ -1,7 +1,7 @@
-use Rattle.regions.proofs.Walk.{allowed-none, allowed-past, allowed-walked}
+use Rattle.grants.proofs.Reaching.{allowed-none, allowed-past, allowed-walked}
 use borrow.Author.Needs.{needs}
-use Rattle.regions.proofs.access.allowed.Statement.{statement}
-use Rattle.regions.proofs.access.allowed.Tie as tie
+use Rattle.grants.proofs.walk.allowed.Statement.{statement}
+use Rattle.grants.proofs.walk.allowed.Tie as tie
 
 returns : tie.Need-returns
 returns c = search (needs, allowed-none)

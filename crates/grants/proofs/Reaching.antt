@@ -9,10 +9,10 @@ use native.Mathlib.Omega.{arith}
 use Rattle.basis.proofs.Laws.{both-left, both-of, both-right, either-right, every-miss, every-of, false-true, some-of}
 use Rattle.basis.specs.Choice.{both, either, pick}
 use Rattle.basis.specs.Count.{every, some, upTo}
-use Rattle.regions.specs.Access.{allowed, allows, granted, grantedAll, grants, permits}
-use Rattle.regions.specs.Cover.{reach}
+use Rattle.grants.specs.Access.{allowed, allows, granted, grantedAll, grants, permits}
+use Rattle.grants.specs.Cover.{reach}
 use Rattle.regions.specs.Rules.{holderAt, lastAt, permissionAt, startAt}
 use Rattle.regions.specs.declared.Regions.{Regions}
 
 -- a region that grants a byte has it between its bounds, and grants each other one there
 bounds : (h p s l v way a : ℕ) → allows h p s l v way a ≡ true → (s ≤ a) × (a ≤ l)

@@ -2,8 +2,8 @@
 use borrow.Author.Needs.{needs}
 use borrow.Author.Tests.{eq-eqb}
 use Rattle.basis.proofs.Laws.{ways}
-use Rattle.regions.proofs.access.permits.Statement.{statement}
-use Rattle.regions.proofs.access.permits.Tie as tie
+use Rattle.grants.proofs.walk.permits.Statement.{statement}
+use Rattle.grants.proofs.walk.permits.Tie as tie
 
 either-requires : tie.Need-either-requires
 either-requires c κs = search needs

@@ -10,9 +10,9 @@ use native.Mathlib.Omega.{arith}
 use Rattle.basis.proofs.Laws.{both-left, both-of, both-right, either-is, either-left, either-right, every-is, every-of, some-is, some-of}
 use Rattle.basis.specs.Choice.{both, either, pick}
 use Rattle.basis.specs.Count.{every}
-use Rattle.regions.specs.Access.{Allowed, Granted, Permits, allowed, allows, granted, grantedAll, grants, permits}
+use Rattle.grants.specs.Access.{Allowed, Granted, Permits, allowed, allows, granted, grantedAll, grants, permits}
 use Rattle.regions.specs.Rules.{holderAt, lastAt, permissionAt, startAt}
 use Rattle.regions.specs.declared.Regions.{Regions}
 
 -- H8
 permits-is : (way p : ℕ) → permits way p ≡ true → Permits way p

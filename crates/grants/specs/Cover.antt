@@ -2,9 +2,9 @@
 use Prim.Native.Nat.{ℕ, _+_}
 use Rattle.basis.specs.Choice.{pick}
 use Rattle.basis.specs.Count.{upTo}
-use Rattle.regions.specs.Access.{grants}
+use Rattle.grants.specs.Access.{grants}
 use Rattle.regions.specs.Rules.{lastAt}
 use Rattle.regions.specs.declared.Regions.{Regions}
 
 -- one past the last address of the last of the first n regions that grants the byte at a; 0 where none does
 unfoldable pub reach : Regions → ℕ → ℕ → ℕ → ℕ → ℕ

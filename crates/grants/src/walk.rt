@@ -1,12 +1,12 @@
 // The access query: whether a range of bytes is covered by regions that grant it (H8 to H10).
-use crate::Regions;
 use basis::tests::both;
 use basis::tests::either;
+use regions::Regions;
 ghost use Prim.Native.Nat.{_-_, _<_, _^_, _≤_};
 ghost use mathlib.Core.Path.{_≡_};
-ghost use Rattle.regions.specs.Access.{allowed, allows, grantedAll, permits};
-ghost use Rattle.regions.specs.Cover.{reach};
+ghost use Rattle.grants.specs.Access.{allowed, allows, grantedAll, permits};
+ghost use Rattle.grants.specs.Cover.{reach};
 ghost use Rattle.regions.specs.Rules.{listed};
 
 // H9, H10.
 pub fn allowed(

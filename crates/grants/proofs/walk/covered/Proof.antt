@@ -1,11 +1,11 @@
 use Prim.Native.Nat.{_-_, _≤_}
 use mathlib.Core.Path.{_≡_}
 use native.Mathlib.Omega.{arith}
-use Rattle.regions.proofs.Walk.{Walked, reach-far, walk-done, walk-miss, walk-more, walk-none}
+use Rattle.grants.proofs.Reaching.{Walked, reach-far, walk-done, walk-miss, walk-more, walk-none}
 use Rattle.regions.specs.Rules.{listed}
 use borrow.Author.Needs.{needs}
-use Rattle.regions.proofs.access.covered.Statement.{statement}
-use Rattle.regions.proofs.access.covered.Tie as tie
+use Rattle.grants.proofs.walk.covered.Statement.{statement}
+use Rattle.grants.proofs.walk.covered.Tie as tie
 
 abbrev Inv-loop : tie.InvT-loop
 Inv-loop count holders permissions starts lasts v way from end at₀ at = (from ≤ at) × Walked (listed count holders permissions starts lasts) v way from at

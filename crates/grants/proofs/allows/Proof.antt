@@ -1,8 +1,8 @@
 -- The walk over the lent lists is the definition; a list of more than 64 regions is refused.
 use borrow.Author.Needs.{needs}
 use Rattle.basis.proofs.Laws.{ways}
-use Rattle.regions.proofs.Regions.allows.Statement.{statement}
-use Rattle.regions.proofs.Regions.allows.Tie as tie
+use Rattle.grants.proofs.allows.Statement.{statement}
+use Rattle.grants.proofs.allows.Tie as tie
 
 allowed-requires : tie.Need-allowed-requires
 allowed-requires c κs = search needs
