@@ -2,6 +2,7 @@
 use basis::numbers;
 use config::Config;
 ghost use mathlib.Core.Path.{_≡_};
+ghost use Rattle.basis.specs.Choice.{unless};
 ghost use Rattle.image_reader.specs.Records.{coreFault, ownerFault, placeFault, regionFault, slotFault, vmFault};
 ghost use Rattle.regions.specs.Rules.{listed};
 
@@ -95,25 +96,35 @@ fn place_fault(
     if vms <= holder {
         return 32;
     }
-    if regions::has_room(holder, count, holders) {
-        if regions::is_known(permission) {
-            if last < start {
-                return 34;
+    let room = regions::has_room(holder, count, holders);
+    let known = regions::is_known(permission);
+    let agrees = regions::agrees_all(
+        count,
+        holders,
+        permissions,
+        starts,
+        lasts,
+        holder,
+        permission,
+        start,
+        last,
+    );
+    first_fault(room, known, start <= last, agrees)
+}
+
+// I9: of these tests the first that fails.
+fn first_fault(room: bool, known: bool, ordered: bool, agrees: bool) -> u8
+    ensures { λ r. ⌜ r ≡ unless room 35 (unless known 33 (unless ordered 34 (unless agrees 36 0))) ⌝ }
+{
+    if room {
+        if known {
+            if ordered {
+                if agrees {
+                    return 0;
+                }
+                return 36;
             }
-            if regions::agrees_all(
-                count,
-                holders,
-                permissions,
-                starts,
-                lasts,
-                holder,
-                permission,
-                start,
-                last,
-            ) {
-                return 0;
-            }
-            return 36;
+            return 34;
         }
         return 33;
     }
