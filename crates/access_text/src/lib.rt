@@ -2,9 +2,8 @@
 use basis::numbers;
 use basis::tests::both;
 use config::Config;
-ghost use Prim.Native.Nat.{_*_, _+_, _/_, _≤_};
-ghost use lib.ListN.{getD, length};
-ghost use mathlib.Core.Bool.{true};
+ghost use Prim.Native.Nat.{_+_, _/_, _≤_};
+ghost use lib.ListN.{length};
 ghost use mathlib.Core.Path.{_≡_};
 ghost use Rattle.access_text.specs.Queries.{answerAt, answersText, restText, shownIn, wordFor};
 ghost use Rattle.config.specs.Sizes.{legal};

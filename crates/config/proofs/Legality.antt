@@ -1,6 +1,6 @@
 -- The test `legal` says what the record `Legal` says: S1 to S7 and H1 to H6 as facts about every place.
 use Prim.Native.Nat.{suc, zero, ℕ, _<_, _≤_}
-use borrow.Author.Tests.{eq-eqb, eqb-false, eqb-true, le-leb, le-ltb, leb-true, lt-ltb, ltb-true, ne-eqb}
+use borrow.Author.Tests.{eq-eqb, eqb-false, eqb-true, le-leb, leb-true, lt-ltb, ltb-true, ne-eqb}
 use lib.Dec.{eqb, leb, ltb}
 use mathlib.Core.Bool.{Bool, false, true}
 use mathlib.Core.Logic.{inl, inr, _⊎_, ⊎-elim}
@@ -8,7 +8,7 @@ use mathlib.Core.Path.{refl, sym, _∙_, _≡_}
 use Rattle.basis.proofs.Bounds.{empty-is, empty-of, within-is, within-of}
 use Rattle.basis.proofs.Laws.{both-left, both-no, both-of, both-right, both-yes, either-is, either-left, either-right, every-is, every-of, pick-case, some-is, some-of}
 use Rattle.basis.specs.Bounds.{within}
-use Rattle.basis.specs.Choice.{both, either, pick}
+use Rattle.basis.specs.Choice.{both}
 use Rattle.basis.specs.Count.{every}
 use Rattle.basis.specs.Nobody.{nobody}
 use Rattle.config.specs.Places.{placesFit}

@@ -6,7 +6,6 @@ use denote.Triple.Clauses.{AtExit}
 use mathlib.Core.Path.{ap, sym, _∙_, _≡_}
 use Rattle.bank.specs.Bank.{vmsOf}
 use Rattle.basis.proofs.Unique.{OneAnswer}
-use Rattle.change.specs.declared.Answer.{Answer}
 use Rattle.core.specs.declared.Stepped.{Stepped}
 use Rattle.engine.proofs.counts_of.Kinds as counts-of-kinds
 use Rattle.engine.proofs.counts_of.Reads as counts-of-reads
@@ -16,7 +15,6 @@ use Rattle.engine.proofs.step.Kinds as step-kinds
 use Rattle.engine.proofs.step.Reads as step-reads
 use Rattle.engine.proofs.whole.Kinds as whole-kinds
 use Rattle.engine.proofs.whole.Reads as whole-reads
-use Rattle.engine.specs.declared.Moved.{Moved}
 use Rattle.regions.specs.Rules.{none}
 
 pub counts-of-one : OneAnswer 0 counts-of-kinds.ps counts-of-kinds.r counts-of-reads.Post

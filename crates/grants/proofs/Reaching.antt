@@ -6,9 +6,8 @@ use mathlib.Core.Bool.{Bool, false, true}
 use mathlib.Core.Path.{refl, sym, _∙_, _≡_}
 use native.Mathlib.Decide.{decLt}
 use native.Mathlib.Omega.{arith}
-use Rattle.basis.proofs.Laws.{both-left, both-of, both-right, either-right, every-miss, every-of, false-true, some-of}
-use Rattle.basis.specs.Choice.{both, either, pick}
-use Rattle.basis.specs.Count.{every, some, upTo}
+use Rattle.basis.proofs.Laws.{both-left, both-of, both-right, every-miss, every-of, some-of}
+use Rattle.basis.specs.Count.{some, upTo}
 use Rattle.grants.specs.Access.{allowed, allows, granted, grantedAll, grants, permits}
 use Rattle.grants.specs.Cover.{reach}
 use Rattle.regions.specs.Rules.{holderAt, lastAt, permissionAt, startAt}

@@ -1,7 +1,7 @@
 -- What one turn of the reader's loop over region records does, and what the loop keeps (I15).
-use Prim.Native.Nat.{suc, zero, ℕ, _+_, _-_, _<_, _≤_}
+use Prim.Native.Nat.{suc, ℕ, _+_, _-_, _<_, _≤_}
 use borrow.Author.Tests.{eq-eqb, le-ltb, leb-true, ltb-false, ltb-true, ne-eqb}
-use lib.Dec.{eqb, leb, ltb}
+use lib.Dec.{leb, ltb}
 use lib.ListN.{drop, getD, length, length-drop}
 use lib.Seq.{drop-drop}
 use mathlib.Core.Bool.{Bool, false, true}
@@ -15,7 +15,7 @@ use Rattle.basis.specs.Numbers.{word}
 use Rattle.config.specs.declared.Config.{Config}
 use Rattle.image_reader.proofs.Turns.{part, part-is}
 use Rattle.image_reader.specs.Reader.{readRegions, readSlots, refused, withRegions}
-use Rattle.image_reader.specs.Records.{kindIs, placeFault, regionFault, short}
+use Rattle.image_reader.specs.Records.{placeFault, regionFault, short}
 use Rattle.image_reader.specs.declared.Reading.{Reading}
 use Rattle.regions.specs.Beside.{agreesAll, withRegion}
 use Rattle.regions.specs.Rules.{held, known, none}

@@ -10,9 +10,9 @@ use mathlib.Core.Path.{refl, subst, sym, _∙_, _≡_}
 use native.Mathlib.Decide.{decLt}
 use native.Mathlib.Omega.{arith}
 use Rattle.basis.proofs.Laws.{both-left, both-of, both-right, either-is, either-left, either-right, eqb-swap, every-is, every-of}
-use Rattle.basis.specs.Choice.{both, either}
+use Rattle.basis.specs.Choice.{both}
 use Rattle.basis.specs.Count.{every}
-use Rattle.regions.specs.Beside.{agrees, agreesAll, clear, follows}
+use Rattle.regions.specs.Beside.{agreesAll, clear, follows}
 use Rattle.regions.specs.Rules.{alikeAll, allAgree, apart, holderAt, lastAt, mayWrite, permissionAt, startAt}
 use Rattle.regions.specs.declared.Regions.{Regions}
 

@@ -1,17 +1,17 @@
 -- Regions one after the other: a list is lawful exactly where each region may follow those before it.
-use Prim.Native.Nat.{suc, zero, ℕ, _+_, _<_, _≤_}
-use borrow.Author.Tests.{eq-eqb, eqb-false, eqb-true, le-leb, ne-eqb}
-use lib.Dec.{eqb, leb}
+use Prim.Native.Nat.{suc, zero, ℕ, _<_, _≤_}
+use borrow.Author.Tests.{eq-eqb, eqb-true, le-leb}
+use lib.Dec.{eqb}
 use lib.ListN.{getD}
 use mathlib.Core.Bool.{Bool, false, true}
 use mathlib.Core.List.{List}
 use mathlib.Core.Logic.{inl, inr, _⊎_, ⊎-elim}
-use mathlib.Core.Path.{refl, sym, _∙_, _≡_}
+use mathlib.Core.Path.{refl, sym, _≡_}
 use native.Mathlib.Decide.{decLt}
 use native.Mathlib.Omega.{arith}
 use Rattle.basis.proofs.Laws.{count-most, every-of}
 use Rattle.basis.specs.Choice.{pick}
-use Rattle.basis.specs.Count.{howMany, every}
+use Rattle.basis.specs.Count.{howMany}
 use Rattle.regions.specs.Rules.{Lawful, fewEach, held, holderAt, lastAt, permissionAt, startAt}
 use Rattle.regions.specs.declared.Regions.{Regions}
 

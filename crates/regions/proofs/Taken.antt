@@ -1,19 +1,19 @@
 -- The reader's test of one region beside the regions read so far is the fact about the whole list.
-use Prim.Native.Nat.{suc, zero, ℕ, _+_, _<_, _≤_}
+use Prim.Native.Nat.{suc, zero, ℕ, _<_, _≤_}
 use borrow.Author.Tests.{eq-eqb, eqb-false, eqb-true, le-ltb, ltb-false, ne-eqb}
-use lib.Dec.{eqb, leb, ltb}
+use lib.Dec.{eqb, ltb}
 use lib.ListN.{getD}
 use mathlib.Core.Bool.{Bool, false, not, true}
 use mathlib.Core.List.{List}
 use mathlib.Core.Logic.{inl, inr, _⊎_, ⊎-elim}
-use mathlib.Core.Path.{refl, sym, _∙_, _≡_}
+use mathlib.Core.Path.{refl, sym, _≡_}
 use native.Mathlib.Omega.{arith}
 use Rattle.basis.proofs.Laws.{both-left, both-of, both-right, every-is, every-of}
-use Rattle.basis.specs.Choice.{both, either, pick}
-use Rattle.basis.specs.Count.{howMany, every}
+use Rattle.basis.specs.Choice.{both, either}
+use Rattle.basis.specs.Count.{howMany}
 use Rattle.regions.proofs.Steps.{Next}
 use Rattle.regions.specs.Beside.{agrees, agreesAll}
-use Rattle.regions.specs.Rules.{alike, held, holderAt, lastAt, mayWrite, permissionAt, startAt}
+use Rattle.regions.specs.Rules.{held, holderAt, lastAt, mayWrite, permissionAt, startAt}
 use Rattle.regions.specs.declared.Regions.{Regions}
 
 -- counts of two lists that agree below n

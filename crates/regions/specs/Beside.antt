@@ -3,7 +3,7 @@ use Prim.Native.Nat.{ℕ, _+_}
 use lib.Dec.{eqb, ltb}
 use lib.ListN.{set}
 use mathlib.Core.Bool.{Bool, not}
-use Rattle.basis.specs.Choice.{both, either, pick}
+use Rattle.basis.specs.Choice.{both, either}
 use Rattle.basis.specs.Count.{every}
 use Rattle.regions.specs.Rules.{alike, apart, holderAt, lastAt, listed, mayWrite, permissionAt, startAt}
 use Rattle.regions.specs.declared.Regions.{Regions}

@@ -5,7 +5,7 @@ mod rules;
 use basis::tests::both;
 pub use overlap::agrees_all;
 pub use rules::is_known;
-ghost use lib.Dec.{leb, ltb};
+ghost use lib.Dec.{ltb};
 ghost use mathlib.Core.Path.{_≡_};
 ghost use Rattle.basis.specs.Bounds.{emptyRest};
 ghost use Rattle.basis.specs.Choice.{both};

@@ -1,3 +1,4 @@
+-- No bytes, past the end of the space, or the walk.
 use Rattle.grants.proofs.Reaching.{allowed-none, allowed-past, allowed-walked}
 use borrow.Author.Needs.{needs}
 use Rattle.grants.proofs.walk.allowed.Statement.{statement}

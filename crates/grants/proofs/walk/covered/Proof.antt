@@ -1,5 +1,5 @@
+-- Every byte from the first on, below `at`, is granted.
 use Prim.Native.Nat.{_-_, _≤_}
-use mathlib.Core.Path.{_≡_}
 use native.Mathlib.Omega.{arith}
 use Rattle.grants.proofs.Reaching.{Walked, reach-far, walk-done, walk-miss, walk-more, walk-none}
 use Rattle.regions.specs.Rules.{listed}

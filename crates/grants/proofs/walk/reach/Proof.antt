@@ -1,3 +1,4 @@
+-- From `k` on no region grants the byte.
 use Prim.Native.Nat.{_-_, _≤_}
 use mathlib.Core.Path.{refl, sym, _∙_, _≡_}
 use native.Mathlib.Omega.{arith}
