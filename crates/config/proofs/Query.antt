@@ -3,16 +3,19 @@ use Prim.Native.Nat.{ℕ, _<_, _≤_}
 use borrow.Author.Tests.{le-leb, le-ltb, lt-ltb, ltb-true}
 use lib.Dec.{leb, ltb}
 use mathlib.Core.Bool.{Bool, false, true}
+use mathlib.Core.Logic.{⊎-elim}
 use mathlib.Core.Path.{sym, _∙_, _≡_}
+use native.Mathlib.Omega.{arith}
 use Rattle.basis.proofs.Bounds.{within-is, within-of}
 use Rattle.basis.proofs.Laws.{both-left, both-no, both-of, both-right}
 use Rattle.basis.specs.Bounds.{within}
 use Rattle.basis.specs.Choice.{both}
 use Rattle.config.proofs.Legality.{legal-is, legal-of}
-use Rattle.config.specs.Sizes.{Accessible, access, legal}
+use Rattle.config.specs.Sizes.{Accessible, Shared, access, legal}
 use Rattle.config.specs.declared.Config.{Config}
 use Rattle.grants.proofs.Meaning.{allowed-is, allowed-of, none-allowed}
-use Rattle.grants.specs.Access.{allowed}
+use Rattle.grants.specs.Access.{Granted, Permits, allowed}
+use Rattle.regions.specs.Rules.{permissionAt}
 
 module _ (c : Config) (v address length way : ℕ) where
   pub access-stranger : c .count ≤ v → false ≡ access c v address length way
@@ -62,3 +65,40 @@ module _ (c : Config) (v address length way : ℕ) where
   none-granted z e =
       none-allowed (c .regions) v address length way z
       (both-right (within 1 3 way) _ (both-right (ltb v (c .count)) _ (both-right (legal c) _ e)))
+
+one-granted : c .regions .count ≡ 0 → access c v address length way ≡ true → length ≡ 0
+  unfolding access
+  none-granted z e =
+      none-allowed (c .regions) v address length way z
+      (both-right (within 1 3 way) _ (both-right (ltb v (c .count)) _ (both-right (legal c) _ e)))
+
+-- H6: a byte that one VM may write, and another may access in some way, lies in a region of each, and the two have the same range
+pub record Shared (c : Config) (v w a : ℕ) : Type 0 where
+  pub mine : ℕ
+  pub yours : ℕ
+  pub listed : (mine < c .regions .count) × (yours < c .regions .count)
+  pub held : (holderAt (c .regions) mine ≡ v) × (holderAt (c .regions) yours ≡ w)
+  pub inside : (startAt (c .regions) mine ≤ a) × (a ≤ lastAt (c .regions) mine)
+  pub same : (startAt (c .regions) mine ≡ startAt (c .regions) yours) × (lastAt (c .regions) mine ≡ lastAt (c .regions) yours)
+
+one-granted : (c : Config) (v a way : ℕ) → access c v a 1 way ≡ true → Granted (c .regions) v way a
+one-granted c v a way e = ⊎-elim (λ h. absurd (omega arith)) (λ h. h .1 a (omega arith) (omega arith)) (access-is c v a 1 way e .bytes)
+
+may-write : (p : ℕ) → Permits 2 p → p ≡ 2
+may-write p = ⊎-elim (λ h. absurd (omega (arith, h .0))) (⊎-elim (λ h. h .1) (λ h. absurd (omega (arith, h .0))))
+
+-- H6: what one VM may write and another may access, both list as one range
+pub shared-whole : (c : Config) (v w a way : ℕ) → (v ≡ w → ⊥) → access c v a 1 2 ≡ true → access c w a 1 way ≡ true → Shared c v w a
+shared-whole c v w a way n e f =
+    let g = one-granted c v a 2 e in
+    let h = one-granted c w a way f in
+    record {
+      mine = g .place;
+      yours = h .place;
+      listed = (g .listed, h .listed);
+      held = (g .held, h .held);
+      inside = (g .from, g .to);
+      same =
+          access-is c v a 1 2 e .legal .regions .shared (g .place) (h .place) (g .listed) (h .listed) (may-write (permissionAt (c .regions) (g .place)) (g .permits))
+          (λ z. n (sym (g .held) ∙ z ∙ h .held)) (omega (arith, g .from, h .to)) (omega (arith, h .from, g .to));
+    }

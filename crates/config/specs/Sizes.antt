@@ -12,7 +12,7 @@ use Rattle.basis.specs.Count.{every, some}
 use Rattle.basis.specs.Nobody.{nobody}
 use Rattle.config.specs.declared.Config.{Config}
 use Rattle.grants.specs.Access.{Allowed, allowed}
-use Rattle.regions.specs.Rules.{Lawful, lawful, none}
+use Rattle.regions.specs.Rules.{Lawful, holderAt, lastAt, lawful, none, startAt}
 use Rattle.regions.specs.declared.Regions.{Regions}
 
 -- a configuration by its parts
