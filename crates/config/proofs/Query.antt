@@ -66,23 +66,9 @@ module _ (c : Config) (v address length way : ℕ) where
       none-allowed (c .regions) v address length way z
       (both-right (within 1 3 way) _ (both-right (ltb v (c .count)) _ (both-right (legal c) _ e)))
 
-one-granted : c .regions .count ≡ 0 → access c v address length way ≡ true → length ≡ 0
-  unfolding access
-  none-granted z e =
-      none-allowed (c .regions) v address length way z
-      (both-right (within 1 3 way) _ (both-right (ltb v (c .count)) _ (both-right (legal c) _ e)))
-
--- H6: a byte that one VM may write, and another may access in some way, lies in a region of each, and the two have the same range
-pub record Shared (c : Config) (v w a : ℕ) : Type 0 where
-  pub mine : ℕ
-  pub yours : ℕ
-  pub listed : (mine < c .regions .count) × (yours < c .regions .count)
-  pub held : (holderAt (c .regions) mine ≡ v) × (holderAt (c .regions) yours ≡ w)
-  pub inside : (startAt (c .regions) mine ≤ a) × (a ≤ lastAt (c .regions) mine)
-  pub same : (startAt (c .regions) mine ≡ startAt (c .regions) yours) × (lastAt (c .regions) mine ≡ lastAt (c .regions) yours)
-
-one-granted : (c : Config) (v a way : ℕ) → access c v a 1 way ≡ true → Granted (c .regions) v way a
-one-granted c v a way e = ⊎-elim (λ h. absurd (omega arith)) (λ h. h .1 a (omega arith) (omega arith)) (access-is c v a 1 way e .bytes)
+-- a query for one byte
+byte-granted : (c : Config) (v a way : ℕ) → access c v a 1 way ≡ true → Granted (c .regions) v way a
+byte-granted c v a way e = ⊎-elim (λ h. absurd (omega arith)) (λ h. h .1 a (omega arith) (omega arith)) (access-is c v a 1 way e .bytes)
 
 may-write : (p : ℕ) → Permits 2 p → p ≡ 2
 may-write p = ⊎-elim (λ h. absurd (omega (arith, h .0))) (⊎-elim (λ h. h .1) (λ h. absurd (omega (arith, h .0))))
@@ -90,8 +76,8 @@ may-write p = ⊎-elim (λ h. absurd (omega (arith, h .0))) (⊎-elim (λ h. h .
 -- H6: what one VM may write and another may access, both list as one range
 pub shared-whole : (c : Config) (v w a way : ℕ) → (v ≡ w → ⊥) → access c v a 1 2 ≡ true → access c w a 1 way ≡ true → Shared c v w a
 shared-whole c v w a way n e f =
-    let g = one-granted c v a 2 e in
-    let h = one-granted c w a way f in
+    let g = byte-granted c v a 2 e in
+    let h = byte-granted c w a way f in
     record {
       mine = g .place;
       yours = h .place;

@@ -123,3 +123,12 @@ pub record Accessible (c : Config) (v address length way : ℕ) : Type 0 where
   pub vm : v < c .count
   pub asked : (1 ≤ way) × (way ≤ 3)
   pub bytes : Allowed (c .regions) v address length way
+
+-- H6: a byte that VM v may write and VM w may access lies in a region of each, and the two have the same range
+pub record Shared (c : Config) (v w a : ℕ) : Type 0 where
+  pub mine : ℕ
+  pub yours : ℕ
+  pub listed : (mine < c .regions .count) × (yours < c .regions .count)
+  pub held : (holderAt (c .regions) mine ≡ v) × (holderAt (c .regions) yours ≡ w)
+  pub inside : (startAt (c .regions) mine ≤ a) × (a ≤ lastAt (c .regions) mine)
+  pub same : (startAt (c .regions) mine ≡ startAt (c .regions) yours) × (lastAt (c .regions) mine ≡ lastAt (c .regions) yours)
