@@ -81,6 +81,10 @@ impl Core {
             &owners,
             &durations,
         ) {
+            if config.regions.count == 0 {
+                let none = config.regions;
+                return none.blank();
+            }
             let regions = config.regions;
             return regions.lawful(config.count);
         }

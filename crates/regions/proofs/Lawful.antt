@@ -9,7 +9,7 @@ use Rattle.basis.proofs.Laws.{both-left, both-of, both-right, every-is, every-o
 use Rattle.basis.specs.Bounds.{emptyRest, zeros}
 use Rattle.basis.specs.Choice.{both, either}
 use Rattle.basis.specs.Count.{every, howMany}
-use Rattle.regions.specs.Rules.{Lawful, alike, alikeAll, allAgree, bytesRest, countFits, fewEach, held, holderAt, holdersFit, kept, lastAt, lawful, mayWrite, none, permissionAt, permissionsFit, rangesFit, startAt, wordsRest}
+use Rattle.regions.specs.Rules.{Lawful, alike, alikeAll, allAgree, blank, bytesRest, countFits, fewEach, held, holderAt, holdersFit, kept, lastAt, lawful, mayWrite, none, permissionAt, permissionsFit, rangesFit, startAt, wordsRest}
 use Rattle.regions.specs.declared.Regions.{Regions}
 
 -- two regions, the first of which may be written
@@ -107,7 +107,6 @@ unfolding lawful kept holdersFit permissionsFit rangesFit fewEach held howMany a
 none-lawful vms = refl
 
 -- H1: regions of which there are none are lawful where all places hold zero
-pub lawful-empty : (vms : ℕ) (r : Regions) (a b t : Bool) → r .count ≡ 0 → a ≡ both (emptyRest 0 (r .holders)) (emptyRest 0 (r .permissions)) → b ≡ both (emptyRest 0 (r .starts)) (emptyRest 0 (r .lasts))
-    → t ≡ both a b → t ≡ lawful vms r
-unfolding lawful kept holdersFit permissionsFit rangesFit fewEach held howMany allAgree bytesRest wordsRest every
-lawful-empty vms r a b t z e f g = g ∙ rw (e, f, z)
+pub blank-lawful : (vms : ℕ) (r : Regions) (t : Bool) → r .count ≡ 0 → t ≡ blank r → t ≡ lawful vms r
+unfolding lawful kept holdersFit permissionsFit rangesFit fewEach held howMany allAgree bytesRest wordsRest every blank
+blank-lawful vms r t z e = e ∙ rw z

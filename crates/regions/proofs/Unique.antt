@@ -1,6 +1,8 @@
 -- No second answer fits (C2): each public function.
 use mathlib.Core.Path.{sym, _∙_}
 use Rattle.basis.proofs.Unique.{OneAnswer}
+use Rattle.regions.proofs.Regions.blank.Kinds as blank-kinds
+use Rattle.regions.proofs.Regions.blank.Reads as blank-reads
 use Rattle.regions.proofs.Regions.lawful.Kinds as lawful-kinds
 use Rattle.regions.proofs.Regions.lawful.Reads as lawful-reads
 use Rattle.regions.proofs.Regions.none.Kinds as none-kinds
@@ -13,6 +15,9 @@ use Rattle.regions.proofs.rules.is_known.Kinds as known-kinds
 use Rattle.regions.proofs.rules.is_known.Reads as known-reads
 
 -- C1, C2
+pub blank-one : OneAnswer 0 blank-kinds.ps blank-kinds.r blank-reads.Post
+blank-one κs a x y s t p q = p ∙ sym q
+
 pub none-one : OneAnswer 0 none-kinds.ps none-kinds.r none-reads.Post
 none-one κs a x y s t p q = p ∙ sym q
 

@@ -91,6 +91,12 @@ bytesRest r = both (emptyRest (r .count) (r .holders)) (emptyRest (r .count) (r 
 unfoldable pub wordsRest : Regions → Bool
 wordsRest r = both (emptyRest (r .count) (r .starts)) (emptyRest (r .count) (r .lasts))
 
+-- H1: all places hold zero
+unfoldable pub blank : Regions → Bool
+blank r =
+    both (both (emptyRest 0 (r .holders)) (emptyRest 0 (r .permissions)))
+    (both (emptyRest 0 (r .starts)) (emptyRest 0 (r .lasts)))
+
 -- H2 to H6, and H1 of the places past the count, in a configuration of so many VMs
 unfoldable pub kept : ℕ → Regions → Bool
 kept vms r =

@@ -9,7 +9,7 @@ ghost use lib.Dec.{ltb};
 ghost use mathlib.Core.Path.{_≡_};
 ghost use Rattle.basis.specs.Bounds.{emptyRest};
 ghost use Rattle.basis.specs.Choice.{both};
-ghost use Rattle.regions.specs.Rules.{held, lawful, none};
+ghost use Rattle.regions.specs.Rules.{blank, held, lawful, none};
 
 // Regions in the order of their records (H1); what belongs to one region stands at the same place of each array.
 #[repr(C)]
@@ -47,14 +47,11 @@ impl Regions {
         }
     }
 
-    // Whether the regions keep H1 to H6 in a configuration of so many VMs. Where there are none, nothing is lent, so that nothing is copied.
+    // Whether the regions keep H1 to H6 in a configuration of so many VMs.
     pub fn lawful(self, vms: u8) -> bool
         ensures { λ r. ⌜ r ≡ lawful vms self ⌝ }
     {
         let n = self.count;
-        if n == 0 {
-            return both(self.no_bytes(), self.no_words());
-        }
         if Regions::MOST < n {
             return false;
         }
@@ -63,6 +60,13 @@ impl Regions {
         let starts = self.starts;
         let lasts = self.lasts;
         rules::all_kept(vms, n, &holders, &permissions, &starts, &lasts)
+    }
+
+    // Whether all places hold zero: the same test (H1) where there are no regions. It lends nothing, so that nothing is copied.
+    pub fn blank(self) -> bool
+        ensures { λ r. ⌜ r ≡ blank self ⌝ }
+    {
+        both(self.no_bytes(), self.no_words())
     }
 
     // H1: whether no place has a holder or a permission.
