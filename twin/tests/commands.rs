@@ -6,7 +6,7 @@ use std::fs::{self, File};
 use std::io::Write;
 use std::process::{Command, Stdio};
 
-use common::{folder, shown, twin, worked_case, worked_lines};
+use common::{folder, shown, twin, worked_case, worked_lines, STATE_LINES};
 use twin::readable_text::print::text_of;
 
 /// N1, N9, X2: the run of the two files.
@@ -19,7 +19,7 @@ fn pack_run_state_and_unpack() {
     assert_eq!(fs::read(files.join("config.bin")).expect("made"), worked_case().image);
     assert_eq!(fs::read(files.join("events.bin")).expect("made"), worked_case().log);
     assert_eq!(twin(&["run", shown(&files)]).1, worked_lines());
-    assert_eq!(twin(&["state", shown(&files)]).1.lines().count(), 13 * 12);
+    assert_eq!(twin(&["state", shown(&files)]).1.lines().count(), 13 * STATE_LINES);
     assert_eq!(twin(&["unpack", shown(&files), shown(&again)]).0, Some(0));
     assert_eq!(fs::read(&again).expect("made"), fs::read(&text).expect("made"));
 }

@@ -162,13 +162,13 @@ fn too_few_cases_are_said_to_be_too_few() {
     assert!(outcome.text.contains("points were never reached"), "{}", outcome.text);
 }
 
-/// H1 to H11, I6, I8, I9, I15, N13 to N25, M1 to M6: every easy mistake and every other wrong twin is told
-/// from the right one.
+/// H1 to H11, I6, I8, I9, I15, T10, N9, N13 to N25, M1 to M7: every easy mistake and every other wrong twin
+/// is told from the right one.
 #[test]
 fn every_wrong_twin_is_told_apart() {
     let (text, well) = selftest(1, 500);
     assert!(well, "{text}");
-    assert_eq!(text.matches("told apart at case").count(), 59);
+    assert_eq!(text.matches("told apart at case").count(), 91);
     assert_eq!(text.matches("told apart at folder").count(), 19);
     assert_eq!(text.matches("told apart at query folder").count(), 32);
     let (text, well) = selftest(1, 1);
@@ -177,8 +177,8 @@ fn every_wrong_twin_is_told_apart() {
     assert!(text.contains("NEVER told apart in 1 query folders"));
 }
 
-/// H1 to H7, I8, I9, I15, A4, A5, R1, D13: every fault, notice, code and refusal, and every number at every
-/// delivery.
+/// H1 to H7, I8, I9, I15, T10, A4, A5, R1, D13: every fault, notice, code and refusal, every number at every
+/// delivery, and every queue count up, down and away.
 #[test]
 fn the_edge_cases_alone_reach_every_point() {
     for seed in 0..3 {
@@ -217,6 +217,37 @@ fn the_random_cases_alone_reach_every_point_of_removals() {
     let mut points = coverage.points();
     points.retain(|(name, _)| name.contains(" removes ") || name.contains(" removed "));
     assert_eq!(points.len(), 6 * 4 + 1, "{points:?}");
+    assert_eq!(never_reached(points), Vec::<String>::new());
+}
+
+/// T10: each count grows, falls and is cleared at every event that does it, in the cases that no seed changes.
+#[test]
+fn the_fixed_cases_alone_reach_every_point_of_the_counts() {
+    let (one, two) = (CaseMaker::new(1), CaseMaker::new(2));
+    let mut coverage = Coverage::default();
+    for number in 0..one.edge_count() {
+        let case = one.case(number);
+        if case == two.case(number) {
+            coverage.observe(&case);
+        }
+    }
+    let mut points = coverage.points();
+    points.retain(|(name, _)| name.starts_with("counts: "));
+    assert_eq!(points.len(), 8 * 6 + 8 + 7 + 14, "{points:?}");
+    assert_eq!(never_reached(points), Vec::<String>::new());
+}
+
+/// T10: the same by chance, but that each VM alone fills a queue of 16.
+#[test]
+fn the_random_cases_alone_reach_the_points_of_the_counts() {
+    let maker = CaseMaker::new(1);
+    let mut coverage = Coverage::default();
+    for number in maker.edge_count()..maker.edge_count() + 2_000 {
+        coverage.observe(&maker.case(number));
+    }
+    let mut points = coverage.points();
+    points.retain(|(name, _)| name.starts_with("counts: ") && !name.ends_with(" comes to 16"));
+    assert_eq!(points.len(), 8 * 5 + 8 + 7 + 14, "{points:?}");
     assert_eq!(never_reached(points), Vec::<String>::new());
 }
 

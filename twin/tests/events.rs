@@ -2,8 +2,7 @@
 
 mod common;
 
-use common::{call, core_of, core_with, tick, worked_config, write};
-use twin::core::config::Config;
+use common::{call, core_of, core_with, tick, with_queue, worked_config, write};
 use twin::core::event::{Answer, Event, Notice};
 use twin::core::flaw::Flaw;
 use twin::core::state::{
@@ -16,12 +15,6 @@ use twin::generate::log::LogMaker;
 use twin::generate::random::Random;
 use twin::generate::values::any_event;
 use twin::log::read::{read_record, Record};
-
-fn with_queue(size: u8) -> Config {
-    let mut config = worked_config();
-    config.queue_size = size;
-    config
-}
 
 /// The answer of an event that is done and delivers to VM 0.
 fn delivered_to_vm_0(number: u8) -> Answer {

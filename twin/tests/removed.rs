@@ -2,30 +2,18 @@
 
 mod common;
 
-use common::{call, core_of, tick, worked_config, write};
+use common::{call, core_of, events_of, p12_core, runnable, tick, with_queue, write, REMOVING};
 use twin::core::config::{Config, SPARE};
 use twin::core::event::{Answer, Event, Notice};
 use twin::core::flaw::Flaw;
-use twin::core::limits::{MAX_LOG_BYTES, MAX_VMS};
+use twin::core::limits::MAX_VMS;
 use twin::core::state::Queue;
 use twin::core::Core;
 use twin::edges::cases::small;
 use twin::generate::case::CaseMaker;
-use twin::image::read::read_image;
-use twin::log::read::{read_record, Record};
 use twin::report::figures::table_ticks;
 use twin::run::frames::Case;
 use twin::run::text::{many_text, run_text, Detail};
-
-/// The six kinds of events that remove entries, for a VM 0 that runs.
-const REMOVING: [Event; 6] = [
-    Event::Stop { vm: 0 },
-    Event::Restart { vm: 0 },
-    Event::Fault { code: 3, data: 0 },
-    Event::Call { service: 3, argument: 0, next: 0x1020 },
-    Event::Call { service: 2, argument: 32, next: 0x1020 },
-    Event::Call { service: 5, argument: 0, next: 0x1020 },
-];
 
 /// The wrong twins whose mistake is in the number removed.
 const WRONG_COUNTS: [Flaw; 5] = [
@@ -36,29 +24,11 @@ const WRONG_COUNTS: [Flaw; 5] = [
     Flaw::UnknownServiceTellsNone,
 ];
 
-fn with_queue(size: u8) -> Config {
-    let mut config = worked_config();
-    config.queue_size = size;
-    config
-}
-
 /// VM 0 runs in the first of its two ticks, and the master has asked for these VMs.
 fn queued(size: u8, vms: &[u8]) -> Core {
     let mut events = vec![Event::Start, tick(0)];
     events.extend(vms.iter().map(|vm| Event::Extra { vm: *vm }));
     core_of(with_queue(size), &events)
-}
-
-/// The core that P12 begins with, as right or as wrong as asked for.
-fn p12_core(flaw: Flaw) -> Core {
-    let mut core = Core::fresh(with_queue(4), flaw);
-    let before = [Event::Start, tick(0), Event::Extra { vm: 0 }, Event::Extra { vm: 1 }, call(4, 0, 0x1010)];
-    for event in before {
-        let answer = core.apply(event);
-        assert_eq!((answer.refusal, answer.removed), (0, 0), "{event:?}");
-    }
-    assert_eq!(core.state.queue.entries(), [0, 1, 0]);
-    core
 }
 
 /// A4, A8, D14, D18, P12, M6: each kind of event that removes entries, beside one of another VM.
@@ -263,21 +233,6 @@ fn n3_an_events_line_has_eight_parts_and_ends_in_the_number_removed() {
         assert!(text.lines().filter(|line| !line.starts_with("cut")).eq(in_states), "case {number}");
     }
     assert!(lines_seen > 20_000 && removals_seen > 200, "{lines_seen} lines, {removals_seen} removals");
-}
-
-fn events_of(log: &[u8]) -> Vec<Event> {
-    let (mut events, mut at) = (Vec::new(), 0);
-    while let Record::Event(event, next) = read_record(log, at) {
-        events.push(event);
-        at = next;
-    }
-    events
-}
-
-/// A fresh core, where the log is run at all.
-fn runnable(image: &[u8], log: &[u8], flaw: Flaw) -> Option<Core> {
-    let config = read_image(image, flaw).ok().filter(|_| log.len() <= MAX_LOG_BYTES)?;
-    Some(Core::fresh(config, flaw))
 }
 
 /// What became of a VM's requests, as the events and their answers tell.

@@ -2,7 +2,7 @@
 
 mod common;
 
-use common::{call, core_of, tick, worked_case, worked_config, write};
+use common::{call, core_of, tick, with_queue, worked_case, write, STATE_LINES};
 use twin::core::event::Event;
 use twin::core::flaw::Flaw;
 use twin::edges::reports::edge_reports;
@@ -54,7 +54,8 @@ fn each_standing_has_its_number() {
     let events = [Event::Start, tick(0), call(3, 0, 0), tick(0), tick(0), Event::Stop { vm: 1 }];
     let more = [Event::Restart { vm: 0 }, tick(0), tick(0), Event::Fault { code: 3, data: 0 }];
     let lines = lines(&[&events[..], &more].concat(), Detail::States);
-    let standing = |event: usize, vm: usize| lines[12 * event + 4 + vm].split(' ').nth(2).expect("a number");
+    let standing =
+        |event: usize, vm: usize| lines[STATE_LINES * event + 5 + vm].split(' ').nth(2).expect("a number");
     assert_eq!([standing(0, 2), standing(0, 7)], ["0", "0"], "never started");
     assert_eq!([standing(0, 0), standing(2, 1), standing(6, 0)], ["1", "1", "1"], "ready");
     assert_eq!([standing(5, 1), standing(9, 1)], ["2", "2"], "stopped");
@@ -62,11 +63,10 @@ fn each_standing_has_its_number() {
     assert_eq!(standing(9, 0), "4", "in error");
 }
 
-/// N9: the notice and the queue of whole states, in decimal.
+/// T10, N9: the notice, the queue and its counts in whole states, in decimal.
 #[test]
 fn the_lines_of_a_state_show_the_notice_and_the_queue() {
-    let mut config = worked_config();
-    config.queue_size = 3;
+    let config = with_queue(3);
     let events = [Event::Start, tick(0), Event::Extra { vm: 1 }, Event::Extra { vm: 1 }, call(4, 0, 0)];
     assert_eq!(core_of(config.clone(), &events).state.queue.entries(), [1, 1, 0]);
     let image = image_bytes(&config, Flaw::None);
@@ -74,12 +74,12 @@ fn the_lines_of_a_state_show_the_notice_and_the_queue() {
     let text = String::from_utf8(run_text(&image, &log, Detail::States, Flaw::None)).expect("ascii");
     let lines: Vec<&str> = text.lines().collect();
     assert_eq!(
-        lines[4 * 12..][..4],
-        ["5 0 0 00000000 - 0 0 0", "notice 0 0 0", "core 1 1 0 2 0", "queue 1 1 0"]
+        lines[4 * STATE_LINES..][..5],
+        ["5 0 0 00000000 - 0 0 0", "notice 0 0 0", "core 1 1 0 2 0", "queue 1 1 0", "counts 1 2 0 0 0 0 0 0"]
     );
     assert_eq!(
-        lines[5 * 12..][..4],
-        ["6 0 - - - 3 0 1", "notice 0 3 4294967295", "core 1 1 0 2 -", "queue 1 1"]
+        lines[5 * STATE_LINES..][..5],
+        ["6 0 - - - 3 0 1", "notice 0 3 4294967295", "core 1 1 0 2 -", "queue 1 1", "counts 0 2 0 0 0 0 0 0"]
     );
 }
 

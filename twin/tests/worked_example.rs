@@ -2,7 +2,7 @@
 
 mod common;
 
-use common::{worked_case, worked_events, worked_lines};
+use common::{worked_case, worked_events, worked_lines, STATE_LINES};
 use twin::core::event::Event;
 use twin::core::flaw::Flaw;
 use twin::core::state::Standing;
@@ -93,22 +93,29 @@ fn p5_event_13_idles_in_the_slot_of_a_stopped_vm() {
     assert_eq!((core.state.vms[0].age, core.state.vms[1].age), (5, 5));
 }
 
-/// D1, D2, N9, P1: the lines of whole states.
+/// T10, D1, D2, N9, P1: the lines of whole states, and those of the queue and its counts at every event.
 #[test]
 fn states_of_the_first_and_the_tenth_event() {
     let case = worked_case();
     let text = run_text(&case.image, &case.log, Detail::States, Flaw::None);
     let text = String::from_utf8(text).expect("ascii");
     let lines: Vec<&str> = text.lines().collect();
-    assert_eq!(lines.len(), 13 * 12);
+    assert_eq!(lines.len(), 13 * STATE_LINES);
     assert_eq!(lines[..4], ["1 0 - - - 0 0 0", "notice 0 0 0", "core 1 0 0 0 -", "queue"]);
+    assert_eq!(lines[4], "counts 0 0 0 0 0 0 0 0");
     let zero = "00000000";
-    assert_eq!(lines[4], format!("vm 0 1 00001000 {} 0 0", [zero; 10].join(" ")));
-    assert_eq!(lines[6], format!("vm 2 0 {} 0 0", [zero; 11].join(" ")));
-    let tenth = &lines[9 * 12..10 * 12];
+    assert_eq!(lines[5], format!("vm 0 1 00001000 {} 0 0", [zero; 10].join(" ")));
+    assert_eq!(lines[7], format!("vm 2 0 {} 0 0", [zero; 11].join(" ")));
+    let tenth = &lines[9 * STATE_LINES..10 * STATE_LINES];
     assert_eq!(tenth[..4], ["10 0 0 00001004 7 0 0 0", "notice 0 0 0", "core 1 1 2 1 0", "queue"]);
+    assert_eq!(tenth[4], "counts 0 0 0 0 0 0 0 0");
     let fields = "00000004 00000001 00000000 00000000 00001020 00000007 00000088 00000000 00000080 00000003";
-    assert_eq!(tenth[4], format!("vm 0 1 00001004 {fields} 4 3"));
-    assert_eq!(lines[11 * 12 + 1], "notice 0 0 0");
-    assert_eq!(lines[8 * 12 + 3], "queue 0");
+    assert_eq!(tenth[5], format!("vm 0 1 00001004 {fields} 4 3"));
+    assert_eq!(lines[11 * STATE_LINES + 1], "notice 0 0 0");
+    // From its request, event 7, to the spare tick, event 10, VM 0 stands in the queue.
+    let with_entry = ["queue 0", "counts 1 0 0 0 0 0 0 0"];
+    for event in 1..=13 {
+        let shown = &lines[STATE_LINES * (event - 1) + 3..][..2];
+        assert_eq!(shown == with_entry, (7..=9).contains(&event), "event {event}: {shown:?}");
+    }
 }

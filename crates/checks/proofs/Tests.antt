@@ -20,7 +20,7 @@ use Rattle.config.specs.Sizes.{durationAt, isSpare, legal, ownerAt}
 use Rattle.config.specs.declared.Config.{Config}
 use Rattle.guest.specs.Record.{fresh, lastStanding, standingKnown}
 use Rattle.guest.specs.declared.Vm.{Vm}
-use Rattle.queue.specs.Entries.{paddedOf}
+use Rattle.queue.specs.Entries.{countedOf, paddedOf}
 use Rattle.queue.specs.declared.Queue.{Queue}
 use Rattle.table.specs.Position.{hasTicked, isStarted}
 use Rattle.table.specs.declared.Clock.{Clock}
@@ -68,8 +68,8 @@ queue-16 len room x h =
       | no l ↦ rw (le-leb len room (omega arith), le-leb len 16 (omega arith))
     ]
 
--- the tests of the code, in its order, are W1 to W12
-module _ (g : Config) (clock : Clock) (running : ℕ) (queue : Queue) (vms : List Vm) (s : List ℕ) (rest queued begun placed ready runs known a : Bool) (duration owner : ℕ)
+-- the tests of the code, in its order, are W1 to W13
+module _ (g : Config) (clock : Clock) (running : ℕ) (queue : Queue) (vms : List Vm) (s : List ℕ) (rest queued begun placed ready runs known counted a : Bool) (duration owner : ℕ)
     (hs : s ≡ standingsOf vms)
     (h1 : rest ≡ restFresh (g .count) vms)
     (h2 : queued ≡ both (leb (queue .len) 16) (both (leb (queue .len) (g .room)) (both (every (λ k. readyIn s (getD (queue .items) k 0)) (queue .len)) (paddedOf queue))))
@@ -80,7 +80,8 @@ module _ (g : Config) (clock : Clock) (running : ℕ) (queue : Queue) (vms : Lis
     (hr : ready ≡ readyIn s running)
     (h5 : runs ≡ both (either (eqb running nobody) ready) (either (eqb running nobody) (either (eqb owner running) (isSpare owner))))
     (h6 : known ≡ both (leb (clock .started) 1) (both (leb (clock .ticked) 1) (every (λ j. leb (getD s j 0) lastStanding) 8)))
-    (h : a ≡ both rest (both queued (both begun (both placed (both runs known)))))
+    (h7 : counted ≡ countedOf queue)
+    (h : a ≡ both rest (both queued (both begun (both placed (both runs (both known counted))))))
   where
     joined-law : legal g ≡ true → a ≡ soundFrom g clock running queue vms
     unfolding soundFrom noneIn
@@ -90,12 +91,12 @@ module _ (g : Config) (clock : Clock) (running : ℕ) (queue : Queue) (vms : Lis
         let n : every (λ k. not (readyIn (standingsOf vms) k)) 8 ≡ every (λ k. not (readyOf vms k)) 8 = every-same _ _ (λ k. ap not (sym (ready-is vms k))) 8 in
         let m : every (λ j. leb (getD (standingsOf vms) j 0) lastStanding) 8 ≡ every (λ k. standingKnown (getD vms k fresh)) 8 =
         every-same _ _ (λ k. ap (λ (x : ℕ). leb x lastStanding) (standing-is vms k)) 8 in
-        h ∙ rw (h1, h2 ∙ queue-16 (queue .len) (g .room) _ (legal-is g l .queue), h3, h4, h5, h6, hr, hd, ho, hs, q, n, m, ← ready-is vms running, l)
+        h ∙ rw (h1, h2 ∙ queue-16 (queue .len) (g .room) _ (legal-is g l .queue), h3, h4, h5, h6, h7, hr, hd, ho, hs, q, n, m, ← ready-is vms running, l)
         (regroup (restFresh (g .count) vms) (leb (queue .len) (g .room)) (every (λ k. readyOf vms (getD (queue .items) k 0)) (queue .len)) (paddedOf queue)
         (either (hasTicked clock) (eqb running nobody)) (either (isStarted clock) (nothingFrom clock running queue vms))
         (either (not (hasTicked clock)) (ltb (clock .slot) (g .slots))) (either (not (hasTicked clock)) (within 1 (durationAt g (clock .slot)) (clock .left)))
         (either (eqb running nobody) (readyOf vms running)) (either (eqb running nobody) (either (eqb (ownerAt g (clock .slot)) running) (isSpare (ownerAt g (clock .slot)))))
-        (both (leb (clock .started) 1) (both (leb (clock .ticked) 1) (every (λ k. standingKnown (getD vms k fresh)) 8))))
+        (both (both (leb (clock .started) 1) (both (leb (clock .ticked) 1) (every (λ k. standingKnown (getD vms k fresh)) 8))) (countedOf queue)))
 
     parts-law : (t : Bool) → t ≡ legal g → both a t ≡ soundFrom g clock running queue vms
     unfolding soundFrom

@@ -1,4 +1,4 @@
--- W1 to W12 over the parts of a state: its configuration, clock, running VM, queue and VM records. `sound` of the core says the same of a core.
+-- W1 to W13 over the parts of a state: its configuration, clock, running VM, queue and VM records. `sound` of the core says the same of a core.
 use Prim.Native.Nat.{ℕ}
 use lib.Dec.{eqb, leb, ltb}
 use lib.ListN.{getD}
@@ -12,7 +12,7 @@ use Rattle.config.specs.Sizes.{durationAt, isSpare, legal, ownerAt}
 use Rattle.config.specs.declared.Config.{Config}
 use Rattle.guest.specs.Record.{fresh, isReady, standingKnown}
 use Rattle.guest.specs.declared.Vm.{Vm}
-use Rattle.queue.specs.Entries.{paddedOf}
+use Rattle.queue.specs.Entries.{countedOf, paddedOf}
 use Rattle.queue.specs.declared.Queue.{Queue}
 use Rattle.table.specs.Position.{hasTicked, isStarted}
 use Rattle.table.specs.declared.Clock.{Clock}
@@ -27,7 +27,7 @@ abbrev pub nothingFrom : Clock → ℕ → Queue → List Vm → Bool
 nothingFrom clock running queue vms =
     both (every (λ k. not (readyOf vms k)) 8) (both (eqb (queue .len) 0) (both (eqb running nobody) (not (hasTicked clock))))
 
--- one line for each of W1 to W11, and W12; no more is asked (W13)
+-- one line for each of W1 to W13; no more is asked (W14)
 unfoldable pub soundFrom : Config → Clock → ℕ → Queue → List Vm → Bool
 soundFrom g clock running queue vms =
     both (legal g)
@@ -41,4 +41,5 @@ soundFrom g clock running queue vms =
     (both (either (not (hasTicked clock)) (within 1 (durationAt g (clock .slot)) (clock .left)))
     (both (either (eqb running nobody) (readyOf vms running))
     (both (either (eqb running nobody) (either (eqb (ownerAt g (clock .slot)) running) (isSpare (ownerAt g (clock .slot)))))
-    (both (leb (clock .started) 1) (both (leb (clock .ticked) 1) (every (λ k. standingKnown (getD vms k fresh)) 8)))))))))))))
+    (both (both (leb (clock .started) 1) (both (leb (clock .ticked) 1) (every (λ k. standingKnown (getD vms k fresh)) 8)))
+    (countedOf queue))))))))))))

@@ -1,4 +1,4 @@
-// The test of soundness (W1 to W12) over the parts of a state, and the tests that it joins: of the queue, the clock, the runner, and the standings of the eight VMs.
+// The test of soundness (W1 to W13) over the parts of a state, and the tests that it joins: of the queue, the clock, the runner, and the standings of the eight VMs.
 use basis::tests::both;
 use basis::tests::fault;
 use config::Config;
@@ -22,7 +22,7 @@ ghost use Rattle.queue.specs.Entries.{paddedOf};
 ghost use Rattle.regions.specs.Rules.{none};
 ghost use Rattle.table.specs.Position.{hasTicked, isStarted};
 
-// W1 to W12 of the parts of a state but for its regions; the test of the configuration, the longest, comes last.
+// W1 to W13 of the parts of a state but for its regions; the test of the configuration, the longest, comes last.
 pub fn parts_sound(
     vms: [Vm; 8],
     clock: Clock,
@@ -47,7 +47,8 @@ pub fn parts_sound(
     let owner = table::owner_at(clock.slot, owners);
     let runs = runner_sound(running, owner, is_ready(&standings, running));
     let known = numbers_known(clock, &standings);
-    if all(rest, queued, begun, placed, runs, known) {
+    let counted = queue.counted();
+    if all(rest, queued, begun, placed, runs, known, counted) {
         config::parts_legal(count, room, slots, entries, handlers, owners, durations)
     } else {
         false
@@ -182,8 +183,8 @@ fn standings_known(standings: &[u8; 8]) -> bool
 }
 
 // All of them.
-fn all(a: bool, b: bool, c: bool, d: bool, e: bool, f: bool) -> bool
-    ensures { λ r. ⌜ r ≡ both a (both b (both c (both d (both e f)))) ⌝ }
+fn all(a: bool, b: bool, c: bool, d: bool, e: bool, f: bool, g: bool) -> bool
+    ensures { λ r. ⌜ r ≡ both a (both b (both c (both d (both e (both f g))))) ⌝ }
 {
-    both(a, both(b, both(c, both(d, both(e, f)))))
+    both(a, both(b, both(c, both(d, both(e, both(f, g))))))
 }

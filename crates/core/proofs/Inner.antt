@@ -36,7 +36,7 @@ use Rattle.guest.specs.Record.{fresh, isReady}
 use Rattle.guest.specs.declared.Vm.{Vm}
 use Rattle.logic.specs.Changing.{changeFrom, placeFrom}
 use Rattle.logic.specs.Rows.{rowFrom, strayFault, strayWrite}
-use Rattle.queue.specs.Entries.{entries, frontOf, ofList, rest, served}
+use Rattle.queue.specs.Entries.{entries, frontOf, popped, served}
 use Rattle.queue.specs.declared.Queue.{Queue}
 use Rattle.queue.specs.declared.Served.{Served}
 use Rattle.table.specs.Position.{nextClock}
@@ -123,7 +123,7 @@ ticked k q t =
 tick-parts : (c : Core) (at owner head : ℕ) (k : Clock) (t : Turn) (q : Queue)
     → k ≡ nextClock (c .config .slots) (c .config .durations) (c .clock) → owner ≡ getD (c .config .owners) (k .slot) 0
     → head ≡ frontOf (entries (c .queue)) → t ≡ turn (c .running) at (c .config .count) owner head (k .left) (c .config .handlers) (c .vms)
-    → q ≡ pick (eqb owner nobody) (ofList (rest (entries (c .queue)))) (c .queue)
+    → q ≡ pick (eqb owner nobody) (popped (c .queue)) (c .queue)
     → ticked k q t ≡ partsOf (done c (Tick at))
 unfolding done tickTurn tickQueue tickClock
 tick-parts c at owner head k t q hk ho hh ht hq =

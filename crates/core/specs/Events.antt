@@ -17,7 +17,7 @@ use Rattle.event.specs.declared.Event.{Event}
 use Rattle.guest.specs.Record.{pend, savedAt, stoppedStanding}
 use Rattle.guest.specs.Write.{write}
 use Rattle.guest.specs.declared.Vm.{Vm}
-use Rattle.queue.specs.Entries.{entries, frontOf, ofList, rest}
+use Rattle.queue.specs.Entries.{entries, frontOf, popped}
 use Rattle.queue.specs.declared.Queue.{Queue}
 use Rattle.table.specs.Position.{nextClock, startedClock}
 use Rattle.table.specs.declared.Clock.{Clock}
@@ -42,7 +42,7 @@ tickTurn c at = turn (c .running) at (c .config .count) (tickOwner c) (frontOf (
 
 -- D7: a spare slot takes the oldest entry
 unfoldable pub tickQueue : Core → Queue
-tickQueue c = pick (isSpare (tickOwner c)) (ofList (rest (entries (c .queue)))) (c .queue)
+tickQueue c = pick (isSpare (tickOwner c)) (popped (c .queue)) (c .queue)
 
 -- D3 to D9
 abbrev pub tickCore : Core → ℕ → Core

@@ -187,8 +187,10 @@ fn made_again(q: Queue) -> Queue
     ensures { λ r. ⌜ r ≡ q ⌝ }
 {
     let items = q.items;
+    let counts = q.counts;
     Queue {
         items: items,
         len: q.len,
+        counts: counts,
     }
 }

@@ -1,4 +1,4 @@
--- Every event keeps W1 to W12.
+-- Every event keeps W1 to W13.
 use Prim.Native.Nat.{ℕ, _+_, _-_, _<_, _≤_}
 use borrow.Author.Tests.{eqb-false, eqb-true, le-ltb, leb-false}
 use lib.Dec.{eqb, ltb}
@@ -33,9 +33,10 @@ use Rattle.guest.specs.Deliver.{backFrom, deliver}
 use Rattle.guest.specs.Record.{endedAs, fresh, isReady, lastStanding, pend, savedAt, startedAt}
 use Rattle.guest.specs.Write.{write}
 use Rattle.guest.specs.declared.Vm.{Vm}
+use Rattle.queue.proofs.Counted.{counted-cleared, counted-lowered, counted-raised}
 use Rattle.queue.proofs.Lists.{pad-at, past-at}
-use Rattle.queue.proofs.Meaning.{all-append, all-at, all-map, all-others, all-others-not, all-rest, others-length, pushed-done, rest-length}
-use Rattle.queue.specs.Entries.{All, entries, frontOf, ofList, others, pushed, rest}
+use Rattle.queue.proofs.Meaning.{all-append, all-at, all-map, all-others, all-others-not, all-rest, entries-of, others-length, pushed-done, rest-length}
+use Rattle.queue.specs.Entries.{All, Counted, cleared, entries, frontOf, holding, lowered, others, popped, pushed, raised, rest}
 use Rattle.queue.specs.declared.Queue.{Queue}
 use Rattle.table.proofs.Moves.{OnTable, next-on-table, next-started, next-ticked}
 use Rattle.table.specs.Position.{hasTicked, isStarted}
@@ -46,26 +47,28 @@ use Rattle.vms.specs.Tick.{runnerOf}
 
 -- ---- the queue over the VM records
 
--- W3, W4, W5
+-- W3, W4, W5, W13
 pub record Queued (room : ℕ) (l : List Vm) (q : Queue) : Type 0 where
   pub few : q .len ≤ room
   pub ready : (k : ℕ) → k < q .len → isReady (getD l (getD (q .items) k 0) fresh) ≡ true
   pub padded : (k : ℕ) → q .len ≤ k → k < 16 → getD (q .items) k 0 ≡ 0
+  pub counted : Counted (q .counts) (entries q)
 
 pub queued-now : (c : Core) → Sound c → Queued (c .config .room) (c .vms) (c .queue)
-queued-now c s = record { few = s .few; ready = s .queued; padded = s .padded }
+queued-now c s = record { few = s .few; ready = s .queued; padded = s .padded; counted = s .counted }
 
 -- other records, with the entries ready in them
 pub queued-in : (room : ℕ) (l m : List Vm) (q : Queue) → ((k : ℕ) → isReady (getD l k fresh) ≡ true → isReady (getD m k fresh) ≡ true) → Queued room l q → Queued room m q
-queued-in room l m q h w = record { few = w .few; ready = λ k i. h (getD (q .items) k 0) (w .ready k i); padded = w .padded }
+queued-in room l m q h w = record { few = w .few; ready = λ k i. h (getD (q .items) k 0) (w .ready k i); padded = w .padded; counted = w .counted }
 
--- the queue of a list
-pub queued-list : (room : ℕ) (l : List Vm) (m : List ℕ) → length m ≤ room → All (λ x. isReady (getD l x fresh) ≡ true) m → Queued room l (ofList m)
-queued-list room l m h a =
+-- the queue of a list, with its counts
+pub queued-list : (room : ℕ) (l : List Vm) (m counts : List ℕ) → length m ≤ room → All (λ x. isReady (getD l x fresh) ≡ true) m → Counted counts m → Queued room l (holding m counts)
+queued-list room l m counts h a n =
     record {
       few = h;
       ready = λ k i. rw (pad-at m (16 - length m) k) (all-at (λ x. isReady (getD l x fresh) ≡ true) m a k i);
       padded = λ k i j. pad-at m (16 - length m) k ∙ past-at m k i;
+      counted = rw (entries-of m counts) n;
     }
 
 all-both : (p r : ℕ → Type 0) (l : List ℕ) → All p l → All r l → All (λ x. p x × r x) l
@@ -76,12 +79,13 @@ module _ (c : Core) (p : Shaped c) (s : Sound c) where
   -- D14, D18: without the entries of v, whose record is another
   pub without-queued : (v : ℕ) (vm : Vm) → Queued (c .config .room) (set (c .vms) v vm) (queueWithout (c .queue) v)
   without-queued v vm =
-      queued-list (c .config .room) (set (c .vms) v vm) (others v (entries (c .queue)))
+      queued-list (c .config .room) (set (c .vms) v vm) (others v (entries (c .queue))) (cleared v (c .queue .counts))
       (omega (arith, others-length v (entries (c .queue)), entries-len c p s, s .few))
       (all-map _ _
       (λ x h. rw (getD-set-other (c .vms) v x vm fresh (eqb-false x v (h .1))) (h .0))
       (others v (entries (c .queue)))
       (all-both (λ x. readyAt c x ≡ true) (λ x. eqb x v ≡ false) (others v (entries (c .queue))) (all-others _ v (entries (c .queue)) (entries-ready c p s)) (all-others-not v (entries (c .queue)))))
+      (counted-cleared (c .queue .counts) (entries (c .queue)) (p .places .counts) (s .counted) v)
 
   -- D20: one entry more
   pub pushed-queued : (v : ℕ) → readyAt c v ≡ true → c .queue .len < c .config .room → Queued (c .config .room) (c .vms) (pushed v (c .queue))
@@ -89,14 +93,16 @@ module _ (c : Core) (p : Shaped c) (s : Sound c) where
       let i : c .queue .len < 16 = omega (arith, room-most c s) in
       let e : length (entries (c .queue) ++ (v ∷ [])) ≡ c .queue .len + 1 = length-append (entries (c .queue)) (v ∷ []) ∙ omega (arith, entries-len c p s) in
       subst (λ (q : Queue). Queued (c .config .room) (c .vms) q) (sym (pushed-done v (c .queue) i))
-      (queued-list (c .config .room) (c .vms) (entries (c .queue) ++ (v ∷ [])) (omega arith) (all-append _ (entries (c .queue)) v (entries-ready c p s) r))
+      (queued-list (c .config .room) (c .vms) (entries (c .queue) ++ (v ∷ [])) (raised v (c .queue .counts)) (omega arith) (all-append _ (entries (c .queue)) v (entries-ready c p s) r)
+      (counted-raised (c .queue .counts) (entries (c .queue)) (p .places .counts) (s .counted) v (omega (arith, entries-len c p s))))
 
   -- D7: the oldest entry leaves in a spare slot
   pub tick-queued : Queued (c .config .room) (c .vms) (tickQueue c)
-  unfolding tickQueue
+  unfolding tickQueue popped
   tick-queued =
       pick-case (λ (q : Queue). Queued (c .config .room) (c .vms) q) (isSpare (tickOwner c)) _ _
-      (λ h. queued-list (c .config .room) (c .vms) (rest (entries (c .queue))) (omega (arith, rest-length (entries (c .queue)), entries-len c p s, s .few)) (all-rest _ (entries (c .queue)) (entries-ready c p s)))
+      (λ h. queued-list (c .config .room) (c .vms) (rest (entries (c .queue))) (lowered (frontOf (entries (c .queue))) (c .queue .counts)) (omega (arith, rest-length (entries (c .queue)), entries-len c p s, s .few)) (all-rest _ (entries (c .queue)) (entries-ready c p s))
+      (counted-lowered (c .queue .counts) (entries (c .queue)) (p .places .counts) (s .counted)))
       (λ h. queued-now c s)
 
 -- ---- one record replaced
@@ -120,6 +126,7 @@ replaced-sound c n s on v l vm m r run q w =
       named = λ h. subst (λ (x : ℕ). (ownerNow c ≡ x) ⊎ (ownerNow c ≡ nobody)) (sym (run h .0)) (s .named (λ e. h (run h .0 ∙ e)));
       flags = s .flags;
       standings = known;
+      counted = w .counted;
     }
   where
     still : hasTicked (c .clock) ≡ false → r ≡ nobody
@@ -185,6 +192,7 @@ start-sound c n s off =
       named = λ h. absurd (h (u .2));
       flags = (omega arith, s .flags .1);
       standings = known;
+      counted = s .counted;
     }
   where
     at-place : (k : ℕ) → k < 8 → getD (startedAll (c .config .count) (c .config .entries) (c .vms)) k fresh ≡ pick (ltb k (c .config .count)) (startedAt (entryAt (c .config) k)) (vmAt c k)
@@ -281,6 +289,7 @@ module _ (c : Core) (p : Shaped c) (s : Sound c) (on : isStarted (c .clock) ≡ 
         named = λ h. rw who (runner-facts c p s (tickOwner c) (λ e. h (who ∙ e)) .1);
         flags = (omega (arith, tick-started c, s .flags .0), omega (arith, tick-ticked c));
         standings = λ i h. rw (tick-standing c at i) (s .standings i h);
+        counted = w .counted;
       }
 
 -- ---- every event

@@ -1,4 +1,4 @@
--- The test `sound` says what the record `Sound` says: W1 to W12 as facts; and facts that follow on sound states.
+-- The test `sound` says what the record `Sound` says: W1 to W13 as facts; and facts that follow on sound states.
 use Prim.Native.Nat.{ℕ, _<_, _≤_}
 use borrow.Author.Tests.{eq-eqb, eqb-false, eqb-true, le-leb, le-ltb, leb-true, lt-ltb, ltb-false, ltb-true, ne-eqb, not-true}
 use lib.Dec.{eqb, leb, ltb}
@@ -14,14 +14,15 @@ use Rattle.basis.specs.Choice.{either}
 use Rattle.basis.specs.Nobody.{nobody}
 use Rattle.config.proofs.Legality.{legal-is, legal-of}
 use Rattle.config.specs.Sizes.{durationAt, isSpare, legal}
-use Rattle.core.specs.Sound.{Sound, configSound, fewQueued, idleAtFirst, leftSound, noneReady, nothingBegun, numbersKnown, placesEmpty, queuedReady, restSound, runnerNamed, runnerReady, slotSound, sound, standingsKnown, startSound}
+use Rattle.core.specs.Sound.{Sound, configSound, countsTrue, fewQueued, idleAtFirst, leftSound, noneReady, nothingBegun, numbersKnown, placesEmpty, queuedReady, restSound, runnerNamed, runnerReady, slotSound, sound, standingsKnown, startSound}
 use Rattle.core.specs.State.{Shaped, idle, ownerNow, readyAt, vmAt}
 use Rattle.core.specs.declared.Core.{Core}
 use Rattle.guest.proofs.Facts.{fresh-is, fresh-of}
 use Rattle.guest.specs.Record.{fresh, lastStanding}
+use Rattle.queue.proofs.Counted.{counted-is, counted-of}
 use Rattle.queue.proofs.Lists.{take-at-in}
 use Rattle.queue.proofs.Meaning.{all-map, all-of, entries-length, of-entries}
-use Rattle.queue.specs.Entries.{All, entries, ofList, paddedOf, rest}
+use Rattle.queue.specs.Entries.{All, entries, holding, paddedOf, rest}
 use Rattle.table.specs.Position.{hasTicked, isStarted}
 use Rattle.vms.specs.Records.{restFresh}
 
@@ -55,7 +56,7 @@ named-is o r e = ⊎-elim (λ h. inl (eqb-true o r h)) (λ h. inr (eqb-true o no
 named-of : (o r : ℕ) → (o ≡ r) ⊎ (o ≡ nobody) → either (eqb o r) (isSpare o) ≡ true
 named-of o r = ⊎-elim (λ h. either-left (eqb o r) (eqb o nobody) (eq-eqb o r h)) (λ h. either-right (eqb o r) (eqb o nobody) (eq-eqb o nobody h))
 
--- ---- W1 to W12 as the tests that `sound` joins
+-- ---- W1 to W13 as the tests that `sound` joins
 
 record Tests (c : Core) : Type 0 where
   legal : configSound c ≡ true
@@ -70,6 +71,7 @@ record Tests (c : Core) : Type 0 where
   ready : runnerReady c ≡ true
   named : runnerNamed c ≡ true
   numbers : numbersKnown c ≡ true
+  counted : countsTrue c ≡ true
 
 tests-is : (c : Core) → sound c ≡ true → Tests c
 unfolding sound
@@ -84,6 +86,7 @@ tests-is c e =
     let e8 = both-right (slotSound c) _ e7 in
     let e9 = both-right (leftSound c) _ e8 in
     let e10 = both-right (runnerReady c) _ e9 in
+    let e11 = both-right (runnerNamed c) _ e10 in
     record {
       legal = both-left (configSound c) _ e;
       rest = both-left (restSound c) _ e1;
@@ -96,7 +99,8 @@ tests-is c e =
       left = both-left (leftSound c) _ e8;
       ready = both-left (runnerReady c) _ e9;
       named = both-left (runnerNamed c) _ e10;
-      numbers = both-right (runnerNamed c) _ e10;
+      numbers = both-left (numbersKnown c) _ e11;
+      counted = both-right (numbersKnown c) _ e11;
     }
 
 tests-of : (c : Core) → Tests c → sound c ≡ true
@@ -113,7 +117,8 @@ tests-of c t =
     (both-of (leftSound c) _ (t .left)
     (both-of (runnerReady c) _ (t .ready)
     (both-of (runnerNamed c) _ (t .named)
-    (t .numbers)))))))))))
+    (both-of (numbersKnown c) _ (t .numbers)
+    (t .counted))))))))))))
 
 -- ---- the test and the facts
 
@@ -137,7 +142,7 @@ unstarted-of c u =
     (both-of (eqb (c .queue .len) 0) _ (eq-eqb (c .queue .len) 0 (u .1))
     (both-of (idle c) _ (eq-eqb (c .running) nobody (u .2)) (not-of (hasTicked (c .clock)) (u .3))))
 
--- a state that passes the test keeps W1 to W12
+-- a state that passes the test keeps W1 to W13
 pub sound-is : (c : Core) → sound c ≡ true → Sound c
 unfolding queuedReady standingsKnown restFresh paddedOf
 sound-is c e =
@@ -157,9 +162,10 @@ sound-is c e =
       named = λ h. named-is (ownerNow c) (c .running) (unless-is (idle c) _ (t .named) (ne-eqb (c .running) nobody h));
       flags = (leb-true (c .clock .started) 1 (both-left (leb (c .clock .started) 1) _ (t .numbers)), leb-true (c .clock .ticked) 1 (both-left (leb (c .clock .ticked) 1) _ n));
       standings = λ k h. leb-true (vmAt c k .standing) lastStanding (every-is _ 8 (both-right (leb (c .clock .ticked) 1) _ n) k h);
+      counted = counted-is (c .queue) (t .counted);
     }
 
--- and a state that keeps W1 to W12 passes it: nothing beyond them is asked (W13)
+-- and a state that keeps W1 to W13 passes it: nothing beyond them is asked (W14)
 pub sound-of : (c : Core) → Sound c → sound c ≡ true
 unfolding queuedReady standingsKnown restFresh paddedOf
 sound-of c s =
@@ -179,6 +185,7 @@ sound-of c s =
       numbers = both-of (leb (c .clock .started) 1) _ (le-leb (c .clock .started) 1 (s .flags .0))
           (both-of (leb (c .clock .ticked) 1) _ (le-leb (c .clock .ticked) 1 (s .flags .1))
           (every-of _ 8 (λ k h. le-leb (vmAt c k .standing) lastStanding (s .standings k h))));
+      counted = counted-of (c .queue) (s .counted);
     })
 
 -- ---- what follows on sound states
@@ -199,7 +206,7 @@ module _ (c : Core) (s : Sound c) where
   pub len-most : c .queue .len ≤ 16
   len-most = let a = s .few in let b = s .legal .queue in omega arith
 
-  -- W5: the queue is the queue of its entries
+  -- W5: the places past the entries
   pub queue-padded : paddedOf (c .queue) ≡ true
   unfolding paddedOf
   queue-padded = every-of _ 16 (λ k h. unless-of (ltb k (c .queue .len)) _ (λ l. eq-eqb (getD (c .queue .items) k 0) 0 (s .padded k (ltb-false k (c .queue .len) l) h)))
@@ -270,11 +277,11 @@ module _ (c : Core) (n : length (c .vms) ≡ 8) (s : Sound c) where
   nobody-unready = (let m = count-most c s in let g : length (c .vms) ≤ nobody = omega arith in rw (List·getD-eq-default (c .vms) fresh g))
 
 module _ (c : Core) (p : Shaped c) (s : Sound c) where
-  pub queue-is-entries : c .queue ≡ ofList (entries (c .queue))
-  queue-is-entries = of-entries (c .queue) (p .places) (len-most c s) (queue-padded c s)
+  pub queue-is-entries : c .queue ≡ holding (entries (c .queue)) (c .queue .counts)
+  queue-is-entries = of-entries (c .queue) (p .places .items) (len-most c s) (queue-padded c s)
 
   pub entries-len : length (entries (c .queue)) ≡ c .queue .len
-  entries-len = entries-length (c .queue) (p .places) (len-most c s)
+  entries-len = entries-length (c .queue) (p .places .items) (len-most c s)
 
   -- W4: each entry names a VM that is ready, so one of the configuration
   pub entries-ready : All (λ x. readyAt c x ≡ true) (entries (c .queue))

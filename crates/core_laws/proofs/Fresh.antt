@@ -1,6 +1,7 @@
 -- The fresh state is sound where its configuration is legal (T6), and only there (T7).
 use lib.ListN.{getD-replicate}
 use mathlib.Core.Bool.{false, true}
+use mathlib.Core.List.{[]}
 use mathlib.Core.Path.{refl, _≡_}
 use native.Mathlib.Omega.{arith}
 use Rattle.basis.proofs.Laws.{false-true}
@@ -14,6 +15,7 @@ use Rattle.core_laws.proofs.Facts.{illegal-unsound, sound-of}
 use Rattle.core_laws.proofs.View.{refusal-unsound}
 use Rattle.event.specs.declared.Event.{Event}
 use Rattle.guest.specs.Record.{fresh}
+use Rattle.queue.proofs.Counted.{counts-none}
 use Rattle.queue.proofs.Lists.{zeros-at}
 
 pub fresh-facts : (g : Config) → Legal g → Sound (freshCore g)
@@ -32,6 +34,7 @@ fresh-facts g l =
       named = λ h. absurd (h refl);
       flags = (omega arith, omega arith);
       standings = λ k h. rw (getD-replicate 8 k fresh fresh h) (omega arith);
+      counted = counts-none [];
     }
 
 -- T6

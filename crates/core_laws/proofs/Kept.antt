@@ -21,8 +21,8 @@ use Rattle.event.specs.declared.Event.the-variants.{Call, Extra, Fault, Restart
 use Rattle.event.specs.declared.Event.{Event}
 use Rattle.guest.specs.Record.{startedAt}
 use Rattle.guest.specs.declared.Vm.{Vm}
-use Rattle.queue.proofs.Meaning.{of-places, others-most, places-pushed, rest-most}
-use Rattle.queue.specs.Entries.{entries, frontOf, others, rest}
+use Rattle.queue.proofs.Meaning.{places-popped, places-pushed, places-without}
+use Rattle.queue.specs.Entries.{Places, entries, frontOf}
 use Rattle.queue.specs.declared.Queue.{Queue}
 use Rattle.table.proofs.Moves.{SamePlace, same-place}
 use Rattle.table.specs.Position.{nextClock}
@@ -76,24 +76,24 @@ tick-place c at = refl
 -- ---- the lengths
 
 pub shaped-fresh : (g : Config) → Sized g → Shaped (freshCore g)
-shaped-fresh g s = record { records = refl; places = refl; sized = s }
+shaped-fresh g s = record { records = refl; places = record { items = refl; counts = refl }; sized = s }
 
--- eight records and sixteen places, with the same configuration
-pub reshaped : (c : Core) → Shaped c → (k : Clock) (r : ℕ) (q : Queue) (l : List Vm) → length l ≡ 8 → length (q .items) ≡ 16
+-- eight records, sixteen places and eight counts, with the same configuration
+pub reshaped : (c : Core) → Shaped c → (k : Clock) (r : ℕ) (q : Queue) (l : List Vm) → length l ≡ 8 → Places q
     → Shaped (withVms (withQueue (withRunning (withClock c k) r) q) l)
 reshaped c s k r q l e f = record { records = e; places = f; sized = s .sized }
 
-pub shaped-replaced : (c : Core) → Shaped c → (v : ℕ) (vm : Vm) (r : ℕ) (q : Queue) → length (q .items) ≡ 16 → Shaped (replaced c v vm r q)
+pub shaped-replaced : (c : Core) → Shaped c → (v : ℕ) (vm : Vm) (r : ℕ) (q : Queue) → Places q → Shaped (replaced c v vm r q)
 shaped-replaced c s v vm r q f = reshaped c s (c .clock) r q _ (length-set (c .vms) v vm ∙ s .records) f
 
-without-places : (c : Core) → Shaped c → (v : ℕ) → length (queueWithout (c .queue) v .items) ≡ 16
-without-places c s v = of-places (others v (entries (c .queue))) (others-most v (c .queue) (s .places))
+without-places : (c : Core) → Shaped c → (v : ℕ) → Places (queueWithout (c .queue) v)
+without-places c s v = places-without v (c .queue) (s .places)
 
-tick-places : (c : Core) → Shaped c → length (tickQueue c .items) ≡ 16
+tick-places : (c : Core) → Shaped c → Places (tickQueue c)
 unfolding tickQueue
 tick-places c s =
-    pick-case (λ (q : Queue). length (q .items) ≡ 16) (isSpare (tickOwner c)) _ _
-    (λ h. of-places (rest (entries (c .queue))) (rest-most (c .queue) (s .places)))
+    pick-case (λ (q : Queue). Places q) (isSpare (tickOwner c)) _ _
+    (λ h. places-popped (c .queue) (s .places))
     (λ h. s .places)
 
 pub shaped-done : (c : Core) → Shaped c → (e : Event) → Shaped (done c e .core)
@@ -109,13 +109,13 @@ shaped-done c s (Restart v) = shaped-replaced c s _ _ _ _ (without-places c s v)
 shaped-done c s (Extra v) = shaped-replaced c s _ _ _ _ (places-pushed v (c .queue) (s .places))
 shaped-done c s (Call service argument next) =
     shaped-replaced c s _ _ _ _
-    (call-case (λ (d : Change). length (d .queue .items) ≡ 16) (c .running) (c .queue) (full c) _ (c .running) service argument _
+    (call-case (λ (d : Change). Places (d .queue)) (c .running) (c .queue) (full c) _ (c .running) service argument _
     (λ h. s .places) (λ h. s .places) (λ h l. s .places) (λ h l. without-places c s (c .running)) (λ h. without-places c s (c .running))
     (λ h l. s .places) (λ h l. places-pushed (c .running) (c .queue) (s .places)) (λ h. without-places c s (c .running)))
 shaped-done c s (Write o x) = shaped-replaced c s _ _ _ _ (s .places)
 shaped-done c s (Fault k d) = shaped-replaced c s _ _ _ _ (without-places c s (c .running))
 
--- T1, T5: eight records and sixteen places
+-- T1, T5: eight records, sixteen places and eight counts
 pub shaped-step : (c : Core) (e : Event) → Shaped c → Shaped (stepOf c e .core)
 shaped-step c e s =
     step-case c e (λ x. Shaped (x .core))

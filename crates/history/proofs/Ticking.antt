@@ -17,7 +17,7 @@ use Rattle.history.proofs.Lawful.{Lawful, runnerBy}
 use Rattle.history.specs.History.{Moment, ticking}
 use Rattle.history.specs.Moments.{asks, naming, runs, spare}
 use Rattle.history.specs.Queueing.{Add, Effect, Keep, Remove, Take, affected, effect}
-use Rattle.queue.proofs.Counts.{front-rest}
+use Rattle.queue.proofs.Counted.{front-rest}
 use Rattle.queue.specs.Entries.{entries, frontOf, rest}
 use Rattle.table.specs.Place.{tableAt}
 use Rattle.vms.specs.Tick.{runnerOf}

@@ -22,7 +22,7 @@ cutWord = 99 ∷ 117 ∷ 116 ∷ 32 ∷ []
 abbrev pub imageWord : List ℕ
 imageWord = 105 ∷ 109 ∷ 97 ∷ 103 ∷ 101 ∷ 32 ∷ []
 
--- N9: `notice `, `core `, `queue`, `vm `
+-- N9: `notice `, `core `, `queue`, `counts`, `vm `
 abbrev pub noticeWord : List ℕ
 noticeWord = 110 ∷ 111 ∷ 116 ∷ 105 ∷ 99 ∷ 101 ∷ 32 ∷ []
 
@@ -31,6 +31,9 @@ coreWord = 99 ∷ 111 ∷ 114 ∷ 101 ∷ 32 ∷ []
 
 abbrev pub queueWord : List ℕ
 queueWord = 113 ∷ 117 ∷ 101 ∷ 117 ∷ 101 ∷ []
+
+abbrev pub countsWord : List ℕ
+countsWord = 99 ∷ 111 ∷ 117 ∷ 110 ∷ 116 ∷ 115 ∷ []
 
 abbrev pub vmWord : List ℕ
 vmWord = 118 ∷ 109 ∷ 32 ∷ []

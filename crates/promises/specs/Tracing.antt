@@ -11,7 +11,7 @@ use Rattle.core.specs.declared.Core.{Core}
 use Rattle.event.specs.Kinds.{isTick}
 use Rattle.history.specs.History.{AtEachEvent, AtEachState, Behaviour, Moment, ticking, went}
 use Rattle.history.specs.Telling.{chosenIn, endedBy, queueIn, standingIn, startedIn}
-use Rattle.queue.specs.Entries.{entries}
+use Rattle.queue.specs.Entries.{Places, entries}
 use Rattle.table.specs.Place.{tableAt}
 
 pub record TracedOf (g : Config) (ms : List Moment) (k : ℕ) (c : Core) : Type 0 where
@@ -21,9 +21,9 @@ pub record TracedOf (g : Config) (ms : List Moment) (k : ℕ) (c : Core) : Type 
   pub started : c .clock .started ≡ startedIn ms
   -- T5, D7, D14, D18, D20, D29: the requests that are queued, the oldest first
   pub queue : entries (c .queue) ≡ queueIn g ms
-  -- T1, T5: eight records, sixteen places
+  -- T1, T5: eight records, sixteen places, eight counts
   pub records : length (c .vms) ≡ 8
-  pub places : length (c .queue .items) ≡ 16
+  pub places : Places (c .queue)
 
 abbrev pub Traced : Behaviour → Type 0
 Traced = AtEachState TracedOf

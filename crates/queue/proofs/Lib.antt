@@ -2,4 +2,4 @@ pub mod Lists
 pub mod Meaning
 pub mod Turns
 pub mod Unique
-pub mod Counts
+pub mod Counted

@@ -3,7 +3,7 @@ use Prim.Native.Nat.{suc, zero, ℕ, _-_, _<_, _≤_}
 use borrow.Author.Tests.{eq-eqb, le-ltb, lt-ltb, ne-eqb}
 use lib.Dec.{eqb, ltb}
 use lib.ListN.{List·getD-append, List·getD-eq-default, getD, length, length-append, length-replicate, length-set, length-take, replicate, set, take}
-use lib.Seq.{append-snoc, ext-getD, getD-append-seam, getD-set-other, getD-set-same, getD-take, set-append-seam}
+use lib.Seq.{append-snoc, ext-getD, getD-append-seam, getD-set-other, getD-set-same, getD-take, set-append-seam, set-out}
 use mathlib.Core.List.{List, [], _++_, _∷_}
 use mathlib.Core.Path.{refl, sym, _∙_, _≡_}
 use native.Mathlib.Decide.{decLt}
@@ -98,3 +98,7 @@ filled-is f n m h e p q =
       | yes g ↦ filled-at f n i g h ∙ p i g
       | no g ↦ (let j : n ≤ i = omega arith in filled-past f n i j ∙ sym (q i j))
     ])
+
+-- to store past the end changes nothing
+pub set-past : (l : List ℕ) (n k x : ℕ) → length l ≡ n → n ≤ k → l ≡ set l k x
+set-past l n k x e h = sym (set-out l k x (omega arith))

@@ -2,7 +2,7 @@
 use Prim.Native.Nat.{suc, zero, ℕ, _+_, _-_, _<_, _≤_}
 use borrow.Author.Tests.{eq-eqb, eqb-true, le-ltb, lt-ltb, ltb-true}
 use lib.Dec.{eqb, ltb}
-use lib.ListN.{getD, length, length-append, length-take, replicate, take}
+use lib.ListN.{getD, length, length-append, length-set, length-take, replicate, take}
 use lib.Seq.{ext-getD, length-take-le, take-append-seam}
 use mathlib.Core.Bool.{Bool, false, true}
 use mathlib.Core.List.{List, [], _++_, _∷_}
@@ -15,7 +15,7 @@ use Rattle.basis.proofs.Laws.{either-is, either-left, either-right, every-is, e
 use Rattle.basis.specs.Choice.{either, pick}
 use Rattle.basis.specs.Nobody.{nobody}
 use Rattle.queue.proofs.Lists.{length-pad, pad, pad-at, past-at, take-at-in, take-at-past}
-use Rattle.queue.specs.Entries.{All, entries, entriesOf, frontOf, ofList, others, paddedOf, pushed, rest}
+use Rattle.queue.specs.Entries.{All, Places, cleared, entries, entriesOf, frontOf, holding, lowered, others, paddedOf, popped, pushed, raised, removal, rest}
 use Rattle.queue.specs.declared.Queue.{Queue}
 
 -- frontOf and rest
@@ -89,11 +89,11 @@ unfolding others
 others-keeps v x e = rw e
 
 -- the entries of a queue, and the queue of a list
-pub entries-of : (l : List ℕ) → entries (ofList l) ≡ l
-entries-of l = take-append-seam l (replicate (16 - length l) 0)
+pub entries-of : (l counts : List ℕ) → entries (holding l counts) ≡ l
+entries-of l counts = take-append-seam l (replicate (16 - length l) 0)
 
-pub of-places : (l : List ℕ) → length l ≤ 16 → length (ofList l .items) ≡ 16
-of-places l h = length-pad l h
+pub places-of : (l counts : List ℕ) → length l ≤ 16 → length counts ≡ 8 → Places (holding l counts)
+places-of l counts h e = record { items = length-pad l h; counts = e }
 
 pub entries-length : (q : Queue) → length (q .items) ≡ 16 → q .len ≤ 16 → length (entries q) ≡ q .len
 entries-length q s h = length-take-le (q .len) (q .items) (omega arith)
@@ -102,26 +102,27 @@ pub entries-most : (q : Queue) → length (q .items) ≡ 16 → length (entries 
 entries-most q s = simp length-take (omega arith)
 
 -- W5
-pub padded-of : (l : List ℕ) → length l ≤ 16 → paddedOf (ofList l) ≡ true
+pub padded-of : (l counts : List ℕ) → length l ≤ 16 → paddedOf (holding l counts) ≡ true
 unfolding paddedOf
-padded-of l h =
+padded-of l counts h =
     every-of (λ k. either (ltb k (length l)) (eqb (getD (pad l) k 0) 0)) 16
     (λ k i. elim (decLt k (length l)) [
       | yes g ↦ either-left (ltb k (length l)) _ (lt-ltb k (length l) g)
       | no g ↦ (let j : length l ≤ k = omega arith in either-right (ltb k (length l)) _ (eq-eqb _ 0 (pad-at l (16 - length l) k ∙ past-at l k j)))
     ])
 
--- a queue's two fields decide it
-pub queue-is : (l items : List ℕ) (len : ℕ) → items ≡ pad l → len ≡ length l → _≡_ {A = Queue} (record { items = items; len = len }) (ofList l)
-queue-is l items len e f = rw (e, f)
+-- a queue's three fields decide it
+pub queue-is : (l items : List ℕ) (len : ℕ) (counts n : List ℕ) → items ≡ pad l → len ≡ length l → counts ≡ n → _≡_ {A = Queue} (record { items = items; len = len; counts = counts }) (holding l n)
+queue-is l items len counts n e f g = rw (e, f, g)
 
--- T5, W5: a padded queue is the queue of its entries
-pub of-entries : (q : Queue) → length (q .items) ≡ 16 → q .len ≤ 16 → paddedOf q ≡ true → q ≡ ofList (entries q)
+-- T5, W5: a padded queue is the queue of its entries and its counts
+pub of-entries : (q : Queue) → length (q .items) ≡ 16 → q .len ≤ 16 → paddedOf q ≡ true → q ≡ holding (entries q) (q .counts)
 unfolding paddedOf
 of-entries q s h e =
-    queue-is (entries q) (q .items) (q .len)
+    queue-is (entries q) (q .items) (q .len) (q .counts) (q .counts)
     (ext-getD 0 (q .items) (pad (entries q)) (s ∙ sym (length-pad (entries q) (entries-most q s))) at-place)
     (sym (entries-length q s h))
+    refl
   where
     zero-past : (k : ℕ) → k < 16 → q .len ≤ k → getD (q .items) k 0 ≡ 0
     zero-past k i g =
@@ -141,17 +142,19 @@ of-entries q s h e =
 -- D20: the entries of each result
 pub entries-pushed : (v : ℕ) (q : Queue) → q .len < 16 → entries (pushed v q) ≡ entries q ++ (v ∷ [])
 unfolding pushed
-entries-pushed v q h = rw (lt-ltb (q .len) 16 h) (entries-of (entries q ++ (v ∷ [])))
+entries-pushed v q h = rw (lt-ltb (q .len) 16 h) (entries-of (entries q ++ (v ∷ [])) (raised v (q .counts)))
 
 -- D7
-pub entries-popped : (q : Queue) → entries (ofList (rest (entries q))) ≡ rest (entries q)
-entries-popped q = entries-of (rest (entries q))
+pub entries-popped : (q : Queue) → entries (popped q) ≡ rest (entries q)
+unfolding popped
+entries-popped q = entries-of (rest (entries q)) (lowered (frontOf (entries q)) (q .counts))
 
-pub entries-without : (v : ℕ) (q : Queue) → entries (ofList (others v (entries q))) ≡ others v (entries q)
-entries-without v q = entries-of (others v (entries q))
+-- D14, D18
+pub entries-without : (v : ℕ) (q : Queue) → entries (removal v q .queue) ≡ others v (entries q)
+entries-without v q = entries-of (others v (entries q)) (cleared v (q .counts))
 
 -- each result has sixteen places and zeros past its entries, and is no longer than it may be
-pub pushed-done : (v : ℕ) (q : Queue) → q .len < 16 → pushed v q ≡ ofList (entries q ++ (v ∷ []))
+pub pushed-done : (v : ℕ) (q : Queue) → q .len < 16 → pushed v q ≡ holding (entries q ++ (v ∷ [])) (raised v (q .counts))
 unfolding pushed
 pushed-done v q h = rw (lt-ltb (q .len) 16 h)
 
@@ -162,10 +165,10 @@ pub pushed-full : (v : ℕ) (q : Queue) → 16 ≤ q .len → pushed v q ≡ q
 unfolding pushed
 pushed-full v q h = rw (le-ltb (q .len) 16 h)
 
-pub places-pushed : (v : ℕ) (q : Queue) → length (q .items) ≡ 16 → length (pushed v q .items) ≡ 16
+pub places-pushed : (v : ℕ) (q : Queue) → Places q → Places (pushed v q)
 places-pushed v q s =
     elim (decLt (q .len) 16) [
-      | yes h ↦ rw (pushed-done v q h) (length-pad (entries q ++ (v ∷ [])) (snoc-most v q h))
+      | yes h ↦ rw (pushed-done v q h) (places-of (entries q ++ (v ∷ [])) (raised v (q .counts)) (snoc-most v q h) (length-set (q .counts) v _ ∙ s .counts))
       | no h ↦ rw (pushed-full v q (omega arith)) s
     ]
 
@@ -173,13 +176,20 @@ pub len-pushed : (v : ℕ) (q : Queue) → length (q .items) ≡ 16 → q .len <
 len-pushed v q s h = rw (pushed-done v q h) (simp (length-append, length-take) (omega arith))
 
 pub padded-pushed : (v : ℕ) (q : Queue) → q .len < 16 → paddedOf (pushed v q) ≡ true
-padded-pushed v q h = rw (pushed-done v q h) (padded-of (entries q ++ (v ∷ [])) (snoc-most v q h))
+padded-pushed v q h = rw (pushed-done v q h) (padded-of (entries q ++ (v ∷ [])) (raised v (q .counts)) (snoc-most v q h))
 
 pub rest-most : (q : Queue) → length (q .items) ≡ 16 → length (rest (entries q)) ≤ 16
 rest-most q s = simp (rest-length, length-take) (omega arith)
 
 pub others-most : (v : ℕ) (q : Queue) → length (q .items) ≡ 16 → length (others v (entries q)) ≤ 16
 others-most v q s = let h = others-length v (entries q) in let g = entries-most q s in omega arith
+
+pub places-popped : (q : Queue) → Places q → Places (popped q)
+unfolding popped
+places-popped q s = places-of (rest (entries q)) (lowered (frontOf (entries q)) (q .counts)) (rest-most q (s .items)) (length-set (q .counts) (frontOf (entries q)) _ ∙ s .counts)
+
+pub places-without : (v : ℕ) (q : Queue) → Places q → Places (removal v q .queue)
+places-without v q s = places-of (others v (entries q)) (cleared v (q .counts)) (others-most v q (s .items)) (length-set (q .counts) v 0 ∙ s .counts)
 
 -- a fact about each entry
 module _ (p : ℕ → Type 0) where

@@ -16,7 +16,7 @@ use Rattle.basis.specs.Choice.{both, either, pick}
 use Rattle.basis.specs.Count.{every, upTo}
 use Rattle.queue.proofs.Lists.{filled, filled-is, length-pad, pad, pad-at, pad-snoc, past-at, snoc-at, take-at-in, take-at-pick}
 use Rattle.queue.proofs.Meaning.{others-append, others-count, others-drops, others-keeps, others-length, queue-is, rest-at, rest-length}
-use Rattle.queue.specs.Entries.{entries, entriesOf, ofList, others, removal, rest}
+use Rattle.queue.specs.Entries.{cleared, entries, entriesOf, holding, others, removal, rest}
 use Rattle.queue.specs.declared.Queue.{Queue}
 use Rattle.queue.specs.declared.Removal.{Removal}
 
@@ -41,10 +41,10 @@ unfolding upTo
 filled-more f k l m x e g h = rw add-one (rw (← e, ← g) h)
 
 -- the loop that moves each entry up has made the queue without its oldest
-pub popped-is : (n : ℕ) (items out : List ℕ) (k len : ℕ) → length items ≡ 16 → out ≡ filled (upward n items) k → k ≡ 15 → len ≡ min n 16 - 1
-    → _≡_ {A = Queue} (record { items = out; len = len }) (ofList (rest (take n items)))
-popped-is n items out k len s e f g =
-    queue-is l out len (rw f at e ∙ filled-is (upward n items) 15 (pad l) (omega arith) (length-pad l (omega (arith, long))) below past) (g ∙ sym long)
+pub popped-is : (n : ℕ) (items out : List ℕ) (k len : ℕ) (counts d : List ℕ) → length items ≡ 16 → out ≡ filled (upward n items) k → k ≡ 15 → len ≡ min n 16 - 1 → counts ≡ d
+    → _≡_ {A = Queue} (record { items = out; len = len; counts = counts }) (holding (rest (take n items)) d)
+popped-is n items out k len counts d s e f g same =
+    queue-is l out len counts d (rw f at e ∙ filled-is (upward n items) 15 (pad l) (omega arith) (length-pad l (omega (arith, long))) below past) (g ∙ sym long) same
   where
     l : List ℕ
     l = rest (take n items)
@@ -62,10 +62,10 @@ popped-is n items out k len s e f g =
     past j h = pad-at l (16 - length l) j ∙ past-at l j (omega (arith, long))
 
 -- the loop that copies and adds has made the queue with v at its end
-pub pushed-is : (v n : ℕ) (items out : List ℕ) (k : ℕ) → length items ≡ 16 → n < 16 → out ≡ filled (longer v n items) k → k ≡ 16
-    → _≡_ {A = Queue} (record { items = out; len = n + 1 }) (ofList (take n items ++ (v ∷ [])))
-pushed-is v n items out k s h e f =
-    queue-is l out (n + 1) (rw f at e ∙ filled-is (longer v n items) 16 (pad l) (omega arith) (length-pad l (omega (arith, long))) below past) (sym long)
+pub pushed-is : (v n : ℕ) (items out : List ℕ) (k : ℕ) (counts d : List ℕ) → length items ≡ 16 → n < 16 → out ≡ filled (longer v n items) k → k ≡ 16 → counts ≡ d
+    → _≡_ {A = Queue} (record { items = out; len = n + 1; counts = counts }) (holding (take n items ++ (v ∷ [])) d)
+pushed-is v n items out k counts d s h e f same =
+    queue-is l out (n + 1) counts d (rw f at e ∙ filled-is (longer v n items) 16 (pad l) (omega arith) (length-pad l (omega (arith, long))) below past) (sym long) same
   where
     l : List ℕ
     l = take n items ++ (v ∷ [])
@@ -138,14 +138,14 @@ kept-same v n items k b s h e t =
     way false z = false-true (sym z)
 
 -- the loop has kept all entries that are not v
-pub without-is : (v n : ℕ) (items out : List ℕ) (k m : ℕ) → length items ≡ 16 → k ≡ 16 → m ≡ length (kept v n items k) → out ≡ pad (kept v n items k)
-    → _≡_ {A = Queue} (record { items = out; len = m }) (ofList (others v (take n items)))
-without-is v n items out k m s e f g =
+pub without-is : (v n : ℕ) (items out : List ℕ) (k m : ℕ) (counts d : List ℕ) → length items ≡ 16 → k ≡ 16 → m ≡ length (kept v n items k) → out ≡ pad (kept v n items k) → counts ≡ d
+    → _≡_ {A = Queue} (record { items = out; len = m; counts = counts }) (holding (others v (take n items)) d)
+without-is v n items out k m counts d s e f g same =
     let w : kept v n items k ≡ others v (take n items) = ap (others v) (take-all k (take n items) (simp length-take (omega arith))) in
-    queue-is (others v (take n items)) out m (rw w at g) (rw w at f)
+    queue-is (others v (take n items)) out m counts d (rw w at g) (rw w at f) same
 
 -- a queue that the entries of v have left is no longer than it was, and shorter by as many as left
-module _ (v : ℕ) (q r : Queue) (before : ℕ) (s : length (q .items) ≡ 16) (e : before ≡ min (q .len) 16) (f : r ≡ ofList (others v (entries q))) where
+module _ (v : ℕ) (q r : Queue) (before : ℕ) (s : length (q .items) ≡ 16) (e : before ≡ min (q .len) 16) (f : r ≡ holding (others v (entries q)) (cleared v (q .counts))) where
   long : before ≡ r .len + entriesOf v (entries q)
   long = omega (arith, e, length-take (q .len) (q .items), s, others-count v (entries q), ap (λ (x : Queue). x .len) f)
 

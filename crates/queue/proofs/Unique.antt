@@ -1,6 +1,8 @@
 -- No second answer fits (C2): each public function.
 use mathlib.Core.Path.{_∙_, sym}
 use Rattle.basis.proofs.Unique.{OneAnswer}
+use Rattle.queue.proofs.Queue.counted.Kinds as counted-kinds
+use Rattle.queue.proofs.Queue.counted.Reads as counted-reads
 use Rattle.queue.proofs.Queue.empty.Kinds as empty-kinds
 use Rattle.queue.proofs.Queue.empty.Reads as empty-reads
 use Rattle.queue.proofs.Queue.padded.Kinds as padded-kinds
@@ -26,3 +28,6 @@ queue-without-one κs a x y s t p q = p ∙ sym q
 
 pub queue-padded-one : OneAnswer 0 padded-kinds.ps padded-kinds.r padded-reads.Post
 queue-padded-one κs a x y s t p q = p ∙ sym q
+
+pub queue-counted-one : OneAnswer 0 counted-kinds.ps counted-kinds.r counted-reads.Post
+queue-counted-one κs a x y s t p q = p ∙ sym q

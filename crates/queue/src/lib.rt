@@ -1,17 +1,21 @@
-// The queue for extra time (T5): sixteen places, the oldest entry first. Each result has zeros past its entries (W5).
+// The queue for extra time (T5): sixteen places, the oldest entry first, and a count for each VM. Each result has zeros past its
+// entries (W5), and counts that follow what was done (T10), whether those before were right or not.
+mod counts;
+
+use basis::tests::fault;
 ghost use Prim.Native.Nat.{min, _+_, _-_, _<_};
 ghost use lib.Dec.{eqb, ltb};
 ghost use mathlib.Core.Bool.{false, true};
-ghost use mathlib.Core.List.{[]};
 ghost use mathlib.Core.Path.{_≡_};
 ghost use Rattle.basis.specs.Choice.{pick};
-ghost use Rattle.queue.specs.Entries.{entries, frontOf, ofList, others, paddedOf, pushed, removal, rest, served};
+ghost use Rattle.queue.specs.Entries.{cleared, countedOf, entries, frontOf, holding, noEntries, others, paddedOf, popped, pushed, removal, served};
 
-// A queue of sixteen places: its first `len` are its entries (T5).
+// A queue of sixteen places: its first `len` are its entries (T5), and each VM's are counted (T10).
 #[repr(C)]
 pub struct Queue {
     pub items: [u8; 16], // VM numbers
     pub len: u8, // how many of them are entries
+    pub counts: [u8; 8], // how many of the entries are each VM's
 }
 
 // A queue that a VM's entries have left, and how many those were (A8).
@@ -31,11 +35,12 @@ impl Queue {
 
     // T6.
     pub fn empty() -> Queue
-        ensures { λ r. ⌜ r ≡ ofList [] ⌝ }
+        ensures { λ r. ⌜ r ≡ noEntries ⌝ }
     {
         Queue {
             items: [0; 16],
             len: 0,
+            counts: [0; 8],
         }
     }
 
@@ -68,7 +73,7 @@ impl Queue {
 
     // Each place takes what the next one has; where that is no entry, zero.
     fn popped(self) -> Queue
-        ensures { λ r. ⌜ r ≡ ofList (rest (entries self)) ⌝ }
+        ensures { λ r. ⌜ r ≡ popped self ⌝ }
     {
         let items = self.items;
         let n = self.len;
@@ -78,9 +83,12 @@ impl Queue {
             out[k] = moved_up(k as u8, n, items[k + 1]);
             k = k + 1;
         }
+        let counts = self.counts;
+        let oldest = self.front();
         Queue {
             items: out,
             len: one_less(n),
+            counts: counts::lowered(counts, oldest),
         }
     }
 
@@ -97,9 +105,11 @@ impl Queue {
                 out[k] = or_joined(k as u8, n, items[k], v);
                 k = k + 1;
             }
+            let counts = self.counts;
             return Queue {
                 items: out,
                 len: n + 1,
+                counts: counts::raised(counts, v),
             };
         }
         self
@@ -120,7 +130,7 @@ impl Queue {
 
     // The entries that are not for v, in their order.
     fn others(self, v: u8) -> Queue
-        ensures { λ r. ⌜ r ≡ ofList (others v (entries self)) ⌝ }
+        ensures { λ r. ⌜ r ≡ holding (others v (entries self)) (cleared v (self .counts)) ⌝ }
     {
         let items = self.items;
         let len = self.len;
@@ -134,9 +144,11 @@ impl Queue {
             }
             k = k + 1;
         }
+        let counts = self.counts;
         Queue {
             items: out,
             len: n as u8,
+            counts: counts::cleared(counts, v),
         }
     }
 
@@ -150,6 +162,22 @@ impl Queue {
         let mut k = entry_count(n) as usize;
         while k < 16 {
             bits = bits | items[k];
+            k = k + 1;
+        }
+        bits == 0
+    }
+
+    // W13: whether the counts are those of the entries.
+    pub fn counted(self) -> bool
+        ensures { λ r. ⌜ r ≡ countedOf self ⌝ }
+    {
+        let counts = self.counts;
+        let items = self.items;
+        let found = counts::counts_of(items, entry_count(self.len));
+        let mut bits: u8 = 0;
+        let mut k: usize = 0;
+        while k < 8 {
+            bits = bits | fault(counts[k] == found[k]);
             k = k + 1;
         }
         bits == 0

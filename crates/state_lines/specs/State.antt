@@ -12,7 +12,7 @@ use Rattle.guest.specs.Record.{fresh}
 use Rattle.guest.specs.declared.Status.{Status}
 use Rattle.guest.specs.declared.Vm.{Vm}
 use Rattle.lines.specs.Text.{lineText}
-use Rattle.lines.specs.Words.{address, choice, coreWord, noticeWord, number, queueWord, two, vmWord}
+use Rattle.lines.specs.Words.{address, choice, coreWord, countsWord, noticeWord, number, queueWord, two, vmWord}
 use Rattle.queue.specs.declared.Queue.{Queue}
 use Rattle.table.specs.declared.Clock.{Clock}
 use Rattle.text.specs.Digits.{decimal}
@@ -25,15 +25,20 @@ noticeText t = noticeWord ++ (two (t .vm) (t .code) 32 ++ number (t .detail) 10)
 unfoldable pub clockText : Clock → ℕ → List ℕ
 clockText k running = coreWord ++ (two (k .started) (k .ticked) 32 ++ (two (k .slot) (k .left) 32 ++ choice running 10))
 
--- N9: `queue` and its entries, a space before each
-abbrev pub entryText : ℕ → List ℕ
-entryText v = (32 ∷ []) ++ decimal v
+-- N9: the first n of some numbers, a space before each
+abbrev pub itemText : ℕ → List ℕ
+itemText v = (32 ∷ []) ++ decimal v
 
-unfoldable pub entriesText : List ℕ → ℕ → List ℕ
-entriesText items n = joined (λ k. entryText (getD items k 0)) n
+unfoldable pub itemsText : List ℕ → ℕ → List ℕ
+itemsText items n = joined (λ k. itemText (getD items k 0)) n
 
+-- N9: `queue` and its entries
 unfoldable pub queueText : Queue → List ℕ
-queueText q = queueWord ++ (entriesText (q .items) (min (q .len) 16) ++ (10 ∷ []))
+queueText q = queueWord ++ (itemsText (q .items) (min (q .len) 16) ++ (10 ∷ []))
+
+-- N9: `counts` and the eight queue counts (T10)
+unfoldable pub countsText : List ℕ → List ℕ
+countsText counts = countsWord ++ (itemsText counts 8 ++ (10 ∷ []))
 
 -- five addresses, a space behind each
 unfoldable pub fiveText : ℕ → ℕ → ℕ → ℕ → ℕ → List ℕ
@@ -50,9 +55,9 @@ vmText k v = vmWord ++ (two k (v .standing) 32 ++ (address (v .address) 32 ++ (f
 unfoldable pub vmsText : List Vm → List ℕ
 vmsText vs = joined (λ k. vmText k (getD vs k fresh)) 8
 
--- N9: the four lines' worth of a state, by its parts
+-- N9: the whole state, by its parts
 abbrev pub partsText : Notice → Clock → ℕ → Queue → List Vm → List ℕ
-partsText t clock running queue vms = noticeText t ++ (clockText clock running ++ (queueText queue ++ vmsText vms))
+partsText t clock running queue vms = noticeText t ++ (clockText clock running ++ (queueText queue ++ (countsText (queue .counts) ++ vmsText vms)))
 
 unfoldable pub stateText : Notice → Core → List ℕ
 stateText t c = partsText t (c .clock) (c .running) (c .queue) (c .vms)

@@ -5,13 +5,13 @@ use guest::Status;
 use guest::Vm;
 use queue::Queue;
 use table::Clock;
-ghost use Prim.Native.Nat.{min, _+_, _≤_};
+ghost use Prim.Native.Nat.{min, _*_, _+_, _≤_};
 ghost use lib.ListN.{length};
 ghost use mathlib.Core.List.{[]};
 ghost use mathlib.Core.Path.{_≡_};
 ghost use Rattle.bank.specs.Bank.{vmsOf};
 ghost use Rattle.basis.specs.Choice.{pick};
-ghost use Rattle.state_lines.specs.State.{clockText, entriesText, entryText, fieldsText, fiveText, noticeText, partsText, queueText, vmText, vmsText};
+ghost use Rattle.state_lines.specs.State.{clockText, countsText, fieldsText, fiveText, itemText, itemsText, noticeText, partsText, queueText, vmText, vmsText};
 ghost use Rattle.text.specs.Pairs.{pairs};
 ghost use Rattle.text.specs.Puts.{Puts};
 
@@ -28,14 +28,15 @@ pub fn put_states(
     words: &[u32],
     t: &[u8; 712],
 ) -> usize
-    requires { ⌜ (now t ≡ pairs) × (at + 1450 ≤ length (now b)) × (length (now standings) ≡ 8) × (length (now words) ≡ 104) ⌝ }
-    ensures { λ r. ⌜ Puts (pick states (partsText told clock running queue (vmsOf (now (standings .entry)) (now (words .entry)))) []) (now (b .entry)) at (now (b .exit)) r × (r ≤ at + 1450) ⌝ }
+    requires { ⌜ (now t ≡ pairs) × (at + 1545 ≤ length (now b)) × (length (now standings) ≡ 8) × (length (now words) ≡ 104) ⌝ }
+    ensures { λ r. ⌜ Puts (pick states (partsText told clock running queue (vmsOf (now (standings .entry)) (now (words .entry)))) []) (now (b .entry)) at (now (b .exit)) r × (r ≤ at + 1545) ⌝ }
 {
     if states {
         let a1 = put_notice(b, at, told, t);
         let a2 = put_clock(b, a1, clock, running, t);
         let a3 = put_queue(b, a2, queue);
-        return put_vms(b, a3, standings, words, t);
+        let a4 = put_counts(b, a3, queue);
+        return put_vms(b, a4, standings, words, t);
     }
     at
 }
@@ -65,7 +66,18 @@ fn put_queue(b: &mut [u8], at: usize, q: Queue) -> usize
 {
     let items = q.items;
     let a1 = text::put_word(b, at, b"queue");
-    let a2 = put_entries(b, a1, &items, least(q.len));
+    let a2 = put_items(b, a1, &items, least(q.len));
+    text::put_byte(b, a2, 10)
+}
+
+// The eight queue counts.
+fn put_counts(b: &mut [u8], at: usize, q: Queue) -> usize
+    requires { ⌜ at + 95 ≤ length (now b) ⌝ }
+    ensures { λ r. ⌜ Puts (countsText (q .counts)) (now (b .entry)) at (now (b .exit)) r × (r ≤ at + 95) ⌝ }
+{
+    let counts = q.counts;
+    let a1 = text::put_word(b, at, b"counts");
+    let a2 = put_items(b, a1, &counts, 8);
     text::put_byte(b, a2, 10)
 }
 
@@ -80,23 +92,24 @@ fn least(len: u8) -> u8
     }
 }
 
-fn put_entries(b: &mut [u8], at: usize, items: &[u8; 16], n: u8) -> usize
-    requires { ⌜ (n ≤ 16) × (at + 176 ≤ length (now b)) ⌝ }
-    ensures { λ r. ⌜ Puts (entriesText (now (items .entry)) n) (now (b .entry)) at (now (b .exit)) r × (r ≤ at + 176) ⌝ }
+// The first n of these numbers, a space before each.
+fn put_items(b: &mut [u8], at: usize, items: &[u8], n: u8) -> usize
+    requires { ⌜ (n ≤ length (now items)) × (at + n * 11 ≤ length (now b)) ⌝ }
+    ensures { λ r. ⌜ Puts (itemsText (now (items .entry)) n) (now (b .entry)) at (now (b .exit)) r × (r ≤ at + n * 11) ⌝ }
 {
     let m = n as usize;
     let mut to = at;
     let mut k: usize = 0;
     while k < m {
-        to = put_entry(b, to, items[k]);
+        to = put_item(b, to, items[k]);
         k = k + 1;
     }
     to
 }
 
-fn put_entry(b: &mut [u8], at: usize, v: u8) -> usize
+fn put_item(b: &mut [u8], at: usize, v: u8) -> usize
     requires { ⌜ at + 11 ≤ length (now b) ⌝ }
-    ensures { λ r. ⌜ Puts (entryText v) (now (b .entry)) at (now (b .exit)) r × (r ≤ at + 11) ⌝ }
+    ensures { λ r. ⌜ Puts (itemText v) (now (b .entry)) at (now (b .exit)) r × (r ≤ at + 11) ⌝ }
 {
     let word = text::put_byte(b, at, 32);
     text::put_decimal(b, word, v as u32)

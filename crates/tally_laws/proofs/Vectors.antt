@@ -22,7 +22,7 @@ use Rattle.history.specs.History.{Moment, history, moments, ticking, times}
 use Rattle.history.specs.Moments.{naming}
 use Rattle.image_reader.specs.Reader.{readEnd, readImage, readRegions, readSlots, readVms, refused as refusedImage}
 use Rattle.image_reader.specs.Records.{coreFault, ownerFault, slotFault, vmFault}
-use Rattle.queue.specs.Entries.{frontOf, others, paddedOf, pushed, rest}
+use Rattle.queue.specs.Entries.{countedOf, entriesOf, frontOf, others, paddedOf, popped, pushed, rest}
 use Rattle.regions.specs.Rules.{alikeAll, allAgree, bytesRest, fewEach, held, holdersFit, kept, lawful, permissionsFit, rangesFit, wordsRest}
 use Rattle.table.specs.Place.{tableTo}
 use Rattle.table.specs.Position.{nextClock}
@@ -48,7 +48,7 @@ run : List Moment
 run = history stepOf (example 1) exampleEvents
 
 figures : figuresOf (example 1) run 0 ∷ figuresOf (example 1) run 1 ∷ lastOf run ∷ [] ≡ (2 ∷ 1 ∷ 1 ∷ []) ∷ (1 ∷ 0 ∷ 0 ∷ []) ∷ (1 ∷ 5 ∷ []) ∷ []
-unfolding run tableTick spareTick missedTick idleTick stepOf refusalOf rowOf sound queuedReady noneReady standingsKnown done startCore tickClock tickTurn tickQueue calledFrom runningWithout refused innerOf legal durationsFit ownersFit vmsServed hasSlot vmsRest slotsRest every some upTo joined isField stored write due deliver enter shown highest setBit clearBit pend isFresh isBlank frontOf rest others pushed paddedOf nextClock each restFresh saving runnerOf entering turnBy passed turn moments times tableTo naming lawful kept holdersFit permissionsFit rangesFit fewEach held howMany alikeAll allAgree bytesRest wordsRest zeros
+unfolding run tableTick spareTick missedTick idleTick stepOf refusalOf rowOf sound queuedReady noneReady standingsKnown done startCore tickClock tickTurn tickQueue calledFrom runningWithout refused innerOf legal durationsFit ownersFit vmsServed hasSlot vmsRest slotsRest every some upTo joined isField stored write due deliver enter shown highest setBit clearBit pend isFresh isBlank frontOf rest others popped pushed paddedOf countedOf entriesOf nextClock each restFresh saving runnerOf entering turnBy passed turn moments times tableTo naming lawful kept holdersFit permissionsFit rangesFit fewEach held howMany alikeAll allAgree bytesRest wordsRest zeros
 figures = refl
 
 -- two VMs' figures as text

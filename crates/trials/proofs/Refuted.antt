@@ -31,7 +31,7 @@ use Rattle.promises.proofs.Due.{found-highest}
 use Rattle.promises.specs.Delivering.{Highest, Offer}
 use Rattle.promises.specs.Framing.{Enabled, OnTick, Previous, Reason, Restore, Resume}
 use Rattle.promises.specs.Refusing.{firstOf, linesOf}
-use Rattle.queue.specs.Entries.{entriesOf, frontOf, others, paddedOf, pushed, rest}
+use Rattle.queue.specs.Entries.{countedOf, entriesOf, frontOf, others, paddedOf, popped, pushed, rest}
 use Rattle.regions.specs.Rules.{alikeAll, allAgree, bytesRest, fewEach, held, holdersFit, kept, lawful, permissionsFit, rangesFit, wordsRest}
 use Rattle.table.specs.Place.{tableTo}
 use Rattle.table.specs.Position.{nextClock}
@@ -63,7 +63,7 @@ record Computed : Type 0 where
   occurs : NotEmpty
 
 computed : Computed
-unfolding stepOf refusalOf rowOf sound queuedReady noneReady standingsKnown done startCore tickClock tickTurn tickQueue calledFrom runningWithout refused innerOf legal durationsFit ownersFit vmsServed hasSlot vmsRest slotsRest every some upTo joined isField stored write due deliver enter shown highest setBit clearBit pend isFresh isBlank frontOf rest others pushed paddedOf nextClock each restFresh saving runnerOf entering turnBy passed turn moments stateAfter countAfter times told standingAfter startedAfter queueAfter ends tableTo naming asks begins entriesOf effect entriesNot servedIn removedIn firstOf linesOf deliverEmpty deliverLow lowest lawful kept holdersFit permissionsFit rangesFit fewEach held howMany alikeAll allAgree bytesRest wordsRest zeros
+unfolding stepOf refusalOf rowOf sound queuedReady noneReady standingsKnown done startCore tickClock tickTurn tickQueue calledFrom runningWithout refused innerOf legal durationsFit ownersFit vmsServed hasSlot vmsRest slotsRest every some upTo joined isField stored write due deliver enter shown highest setBit clearBit pend isFresh isBlank frontOf rest others popped pushed paddedOf countedOf nextClock each restFresh saving runnerOf entering turnBy passed turn moments stateAfter countAfter times told standingAfter startedAfter queueAfter ends tableTo naming asks begins entriesOf effect entriesNot servedIn removedIn firstOf linesOf deliverEmpty deliverLow lowest lawful kept holdersFit permissionsFit rangesFit fewEach held howMany alikeAll allAgree bytesRest wordsRest zeros
 computed =
     record {
       refutes = record {
@@ -109,14 +109,20 @@ computed =
         moves-reason = λ h. (let z : _≡_ {A = ℕ} 9 0 = h (example 1) (given 1 refl) (Start ∷ []) (Extra 0) .fields refl 0 (omega arith) Reason refl in omega arith);
         moves-previous = λ h. (let z : _≡_ {A = ℕ} 9 0 = h (example 1) (given 1 refl) (Start ∷ []) (Extra 0) .fields refl 0 (omega arith) Previous refl in omega arith);
         moves-resume = λ h. (let z : _≡_ {A = ℕ} 9 0 = h (example 1) (given 1 refl) (Start ∷ []) (Extra 0) .fields refl 0 (omega arith) Resume refl in omega arith);
+        served-uncounted = λ h. false-true (h (example 1) (given 1 refl) (Start ∷ Extra 0 ∷ Tick 0 ∷ Tick 0 ∷ Tick 0 ∷ Tick 0 ∷ []));
+        lowers-other = λ h. false-true (h (example 2) (given 2 refl) (Start ∷ Extra 0 ∷ Extra 1 ∷ Tick 0 ∷ Tick 0 ∷ Tick 0 ∷ Tick 0 ∷ []));
+        stop-uncounted = λ h. false-true (h (example 1) (given 1 refl) (Start ∷ Extra 0 ∷ Stop 0 ∷ []));
+        restart-uncounted = λ h. false-true (h (example 1) (given 1 refl) (Start ∷ Extra 0 ∷ Restart 0 ∷ []));
+        joins-uncounted = λ h. false-true (h (example 1) (given 1 refl) (Start ∷ Extra 0 ∷ []));
         strays = λ h. (let z : _≡_ {A = ℕ} 5 0 = h (example 1) (given 1 refl) (Start ∷ []) .unentered refl .0 in omega arith);
         ninth = λ h. (let z : _≡_ {A = ℕ} 9 8 = h (example 1) (given 1 refl) (Start ∷ []) .records in omega arith);
-        longer = λ h. (let z : _≡_ {A = ℕ} 17 16 = h (example 1) (given 1 refl) (Start ∷ []) .places in omega arith);
+        longer = λ h. (let z : _≡_ {A = ℕ} 17 16 = h (example 1) (given 1 refl) (Start ∷ []) .places .items in omega arith);
+        ninth-count = λ h. (let z : _≡_ {A = ℕ} 9 8 = h (example 1) (given 1 refl) (Start ∷ []) .places .counts in omega arith);
       };
       occurs = record { asked = refl; goes-on = refl; spares = refl; named = refl; handed-one = refl; ran = refl; served = refl; requests = refl; granted = refl; removed = refl; standing = refl };
     }
 
--- C3, M1 to M6
+-- C3, M1 to M7
 pub refuted : Refuted
 refuted = computed .refutes
 

@@ -28,12 +28,12 @@ use Rattle.guest.specs.Write.{isField, stored, write}
 use Rattle.history.specs.History.{moments, stateAfter}
 use Rattle.image_reader.specs.Reader.{readEnd, readImage, readRegions, readSlots, readVms, refused as refusedImage}
 use Rattle.image_reader.specs.Records.{coreFault, ownerFault, placeFault, regionFault, slotFault, vmFault}
-use Rattle.queue.specs.Entries.{entriesOf, frontOf, others, paddedOf, pushed, rest}
+use Rattle.queue.specs.Entries.{countedOf, entriesOf, frontOf, others, paddedOf, popped, pushed, rest}
 use Rattle.regions.specs.Beside.{agreesAll}
 use Rattle.regions.specs.Rules.{alikeAll, allAgree, bytesRest, fewEach, held, holdersFit, kept, lawful, permissionsFit, rangesFit, wordsRest}
 use Rattle.table.specs.Position.{hasTicked, nextClock}
 use Rattle.trials.specs.Broken.{Broken, brokenStates, clausesOf, good}
-use Rattle.trials.specs.Vectors.{Vector, callShown, linesIn, removedShown, vectors}
+use Rattle.trials.specs.Vectors.{Vector, callShown, countsShown, linesIn, removedShown, vectors}
 use Rattle.vms.specs.Records.{each, restFresh}
 use Rattle.vms.specs.Tick.{entering, passed, runnerOf, saving, turn, turnBy}
 
@@ -51,11 +51,11 @@ record Computed : Type 0 where
   unsound : AllFalse (soundIn brokenStates)
 
 computed : Computed
-unfolding vectors linesIn callShown removedShown brokenStates clausesOf good refusedImage readImage readEnd readSlots readVms coreFault ownerFault slotFault vmFault stepOf refusalOf rowOf sound queuedReady noneReady standingsKnown done startCore tickClock tickTurn tickQueue calledFrom runningWithout refused innerOf legal durationsFit ownersFit vmsServed hasSlot vmsRest slotsRest every some upTo joined isField stored write due deliver enter shown highest setBit clearBit pend isFresh isBlank frontOf rest others pushed paddedOf nextClock each restFresh saving runnerOf entering turnBy passed turn stateAfter moments entriesOf lawful kept holdersFit permissionsFit rangesFit fewEach held howMany alikeAll allAgree bytesRest wordsRest zeros readRegions regionFault placeFault agreesAll
+unfolding vectors linesIn callShown removedShown countsShown brokenStates clausesOf good refusedImage readImage readEnd readSlots readVms coreFault ownerFault slotFault vmFault stepOf refusalOf rowOf sound queuedReady noneReady standingsKnown done startCore tickClock tickTurn tickQueue calledFrom runningWithout refused innerOf legal durationsFit ownersFit vmsServed hasSlot vmsRest slotsRest every some upTo joined isField stored write due deliver enter shown highest setBit clearBit pend isFresh isBlank frontOf rest others popped pushed paddedOf countedOf nextClock each restFresh saving runnerOf entering turnBy passed turn stateAfter moments entriesOf lawful kept holdersFit permissionsFit rangesFit fewEach held howMany alikeAll allAgree bytesRest wordsRest zeros readRegions regionFault placeFault agreesAll
 computed =
-    record { vectors = refl; good = refl; broken = refl; unsound = (refl, (refl, (refl, (refl, (refl, (refl, (refl, (refl, (refl, (refl, (refl, (refl, (refl, (refl, (refl, tt))))))))))))))) }
+    record { vectors = refl; good = refl; broken = refl; unsound = (refl, (refl, (refl, (refl, (refl, (refl, (refl, (refl, (refl, (refl, (refl, (refl, (refl, (refl, (refl, (refl, (refl, (refl, tt)))))))))))))))))) }
 
--- X1, X2, P1 to P12, C7
+-- X1, X2, P1 to P13, C7
 pub vectors-hold : map (λ (v : Vector). v .found) vectors ≡ map (λ (v : Vector). v .says) vectors
 vectors-hold = computed .vectors
 
@@ -63,7 +63,7 @@ vectors-hold = computed .vectors
 pub good-sound : sound good ≡ true
 good-sound = computed .good
 
--- W1 to W12: each breaks the rules that stand beside it, and no other
+-- W1 to W13: each breaks the rules that stand beside it, and no other
 pub broken-exactly : map (λ (b : Broken). clausesOf (b .state)) brokenStates ≡ map (λ (b : Broken). b .clauses) brokenStates
 broken-exactly = computed .broken
 

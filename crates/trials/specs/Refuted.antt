@@ -4,14 +4,14 @@ use mathlib.Core.Path.{_≡_}
 use Rattle.promises.specs.Answering.{Removing}
 use Rattle.promises.specs.Delivering.{Delivers}
 use Rattle.promises.specs.Framing.{Framed, Starts, Stores}
-use Rattle.promises.specs.Refusing.{Refuses}
+use Rattle.promises.specs.Refusing.{Refuses, StaysSound}
 use Rattle.promises.specs.Sharing.{Accounts, Slices, Waiting}
 use Rattle.promises.specs.Timing.{Shows, Table}
 use Rattle.promises.specs.Tracing.{Runs, Traced}
-use Rattle.trials.specs.Spoilt.{addsPlace, addsRecord, callsYield, extraResets, faultsAsStop, faultsWipe, ignoresWrite, losesRestore, moves, restartsRun, stopsAsError, stopsHandOn, stopsNot, stopsUnused, stopsWipe, straysAtFirst, unstarts, usesUp, writesAll}
+use Rattle.trials.specs.Spoilt.{addsCount, addsPlace, addsRecord, callsYield, extraResets, faultsAsStop, faultsWipe, forgetsServed, ignoresWrite, joinsUncounted, losesRestore, lowersOther, moves, restartsRun, restartsUncounted, stopsAsError, stopsHandOn, stopsNot, stopsUncounted, stopsUnused, stopsWipe, straysAtFirst, unstarts, usesUp, writesAll}
 use Rattle.trials.specs.Worthless.{chargesSpare, emptiesPending, forgetsAddress, idleAlways, injectWaits, injectsItsOwn, invents, leavesEntries, lowestFirst, movesAtStop, newestFirst, raisesCopy, refusesAll, repeatsFirst, restartsSilent, shutsAtOnce, tellsAll, tellsNone, tellsServed, untouched}
 
--- C3, M1 to M6
+-- C3, M1 to M7
 pub record Refuted : Type 0 where
   -- at Start
   pub refuses-all : (n : ℕ) → (n ≡ 0 → ⊥) → Refuses (refusesAll n) → ⊥
@@ -71,7 +71,14 @@ pub record Refuted : Type 0 where
   pub moves-reason : Framed (moves 20) → ⊥
   pub moves-previous : Framed (moves 24) → ⊥
   pub moves-resume : Framed (moves 16) → ⊥
-  -- the clock before the first tick, a ninth record, a seventeenth place
+  -- the queue counts: at a spare tick; at a Stop, a Restart, an Extra
+  pub served-uncounted : StaysSound forgetsServed → ⊥
+  pub lowers-other : StaysSound lowersOther → ⊥
+  pub stop-uncounted : StaysSound stopsUncounted → ⊥
+  pub restart-uncounted : StaysSound restartsUncounted → ⊥
+  pub joins-uncounted : StaysSound joinsUncounted → ⊥
+  -- the clock before the first tick, a ninth record, a seventeenth place, a ninth count
   pub strays : Table straysAtFirst → ⊥
   pub ninth : Traced addsRecord → ⊥
   pub longer : Traced addsPlace → ⊥
+  pub ninth-count : Traced addsCount → ⊥

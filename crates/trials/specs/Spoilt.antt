@@ -2,7 +2,7 @@
 use Prim.Native.Nat.{ℕ}
 use lib.Dec.{eqb}
 use mathlib.Core.Bool.{not}
-use mathlib.Core.List.{[], _++_, _∷_}
+use mathlib.Core.List.{List, [], _++_, _∷_}
 use Rattle.basis.specs.Choice.{both, pick}
 use Rattle.basis.specs.Nobody.{nobody}
 use Rattle.config.specs.Sizes.{isSpare}
@@ -18,7 +18,7 @@ use Rattle.guest.specs.Record.{blank, endedAs, fresh, isReady, savedAt, withSta
 use Rattle.guest.specs.Write.{write}
 use Rattle.guest.specs.declared.Vm.{Vm}
 use Rattle.history.specs.History.{Behaviour}
-use Rattle.queue.specs.Entries.{entries, entriesOf}
+use Rattle.queue.specs.Entries.{entries, entriesOf, lowered}
 use Rattle.table.specs.Position.{hasTicked}
 use Rattle.trials.specs.Worthless.{isDone}
 use Rattle.vms.specs.Records.{each}
@@ -130,6 +130,31 @@ losesRestore = spoilt 17 (λ c e d. touching d (d .running) (write 28 0))
 abbrev pub moves : ℕ → Behaviour
 moves offset = spoilt 21 (λ c e d. touching d (subject e) (write offset 9))
 
+-- ---- the queue counts
+
+-- the state with these queue counts
+abbrev counting : Core → List ℕ → Core
+counting d counts = withQueue d (record { items = d .queue .items; len = d .queue .len; counts = counts })
+
+-- T10, M7: a Tick leaves the count of the VM that it serves
+abbrev pub forgetsServed : Behaviour
+forgetsServed = spoilt 17 (λ c e d. counting d (c .queue .counts))
+
+-- T10, M7: a spare tick lowers the count of the VM that ran before
+abbrev pub lowersOther : Behaviour
+lowersOther = spoilt 17 (λ c e d. pick (isSpare (ownerNow d)) (counting d (lowered (c .running) (c .queue .counts))) d)
+
+-- T10, M7: Stop leaves the count of its VM, and so does Restart
+abbrev pub stopsUncounted : Behaviour
+stopsUncounted = spoilt 18 (λ c e d. counting d (c .queue .counts))
+
+abbrev pub restartsUncounted : Behaviour
+restartsUncounted = spoilt 20 (λ c e d. counting d (c .queue .counts))
+
+-- T10: Extra counts nothing
+abbrev pub joinsUncounted : Behaviour
+joinsUncounted = spoilt 21 (λ c e d. counting d (c .queue .counts))
+
 -- ---- numbers and places that the test of soundness does not look at
 
 -- T6, D2: before the first tick the clock stands at slot 5
@@ -142,4 +167,8 @@ addsRecord = spoilt 16 (λ c e d. withVms d (d .vms ++ (fresh ∷ [])))
 
 -- T5: Start makes a seventeenth place in the queue
 abbrev pub addsPlace : Behaviour
-addsPlace = spoilt 16 (λ c e d. withQueue d (record { items = d .queue .items ++ (7 ∷ []); len = d .queue .len }))
+addsPlace = spoilt 16 (λ c e d. withQueue d (record { items = d .queue .items ++ (7 ∷ []); len = d .queue .len; counts = d .queue .counts }))
+
+-- T5: and a ninth count
+abbrev pub addsCount : Behaviour
+addsCount = spoilt 16 (λ c e d. counting d (d .queue .counts ++ (0 ∷ [])))

@@ -1,6 +1,6 @@
--- The vectors of the rules as one table: X1 with the thirteen lines of X2, and P1 to P12.
+-- The vectors of the rules as one table: X1 with the thirteen lines of X2, and P1 to P13.
 use Prim.Native.Nat.{ℕ, _-_}
-use lib.ListN.{drop, getD, take}
+use lib.ListN.{drop, getD, replicate, take}
 use mathlib.Core.List.{List, map, [], _∷_}
 use Rattle.change.specs.declared.Answer.{Answer}
 use Rattle.config.specs.declared.Config.{Config}
@@ -15,7 +15,7 @@ use Rattle.guest.specs.declared.Status.{Status}
 use Rattle.history.specs.History.{Moment, history, stateOf}
 use Rattle.image_reader.specs.Reader.{readImage}
 use Rattle.queue.specs.Entries.{entries}
-use Rattle.trials.specs.Examples.{example}
+use Rattle.trials.specs.Examples.{example, zeros}
 
 -- the rule, what the definitions give, and what the rule says
 pub data Rule : Type 0 where
@@ -102,7 +102,11 @@ removedBy m = m .answer .removed ∷ entries (m .after .queue)
 unfoldable pub removedShown : ℕ → Event → List ℕ
 removedShown n e = getD (map removedBy (history stepOf (example 4) (Start ∷ Tick 0 ∷ Extra 0 ∷ Extra 1 ∷ Call 4 0 0x1010 ∷ e ∷ []))) (n - 1) []
 
--- X1, X2, P1 to P12, C7
+-- the queue counts when these events follow those of P12 (T10)
+unfoldable pub countsShown : List Event → List ℕ
+countsShown es = stateOf stepOf (example 4) (Start ∷ Tick 0 ∷ Extra 0 ∷ Extra 1 ∷ Call 4 0 0x1010 ∷ es) .queue .counts
+
+-- X1, X2, P1 to P13, C7
 unfoldable pub vectors : List Vector
 vectors =
     record { rule = InX1; found = judged exampleImage ∷ partsOf (readImage exampleImage .config); says = (0 ∷ 0 ∷ []) ∷ partsOf (example 1) }
@@ -145,4 +149,12 @@ vectors =
       found = removedShown 5 (Stop 0) ∷ map (removedShown 6) (Stop 0 ∷ Restart 0 ∷ Fault 3 0 ∷ Call 3 0 0x1020 ∷ Call 2 32 0x1020 ∷ Call 5 0 0x1020 ∷ Stop 1 ∷ []);
       says = (0 ∷ 0 ∷ 1 ∷ 0 ∷ []) ∷ (2 ∷ 1 ∷ []) ∷ (2 ∷ 1 ∷ []) ∷ (2 ∷ 1 ∷ []) ∷ (2 ∷ 1 ∷ []) ∷ (2 ∷ 1 ∷ []) ∷ (2 ∷ 1 ∷ []) ∷ (1 ∷ 0 ∷ 0 ∷ []) ∷ [];
     }
+    ∷ vector (InP 13) (countsShown []) (2 ∷ 1 ∷ zeros 6)
+    ∷ record {
+      rule = InP 13;
+      found = map (λ (e : Event). countsShown (e ∷ [])) (Stop 0 ∷ Restart 0 ∷ Fault 3 0 ∷ Call 3 0 0x1020 ∷ Call 2 32 0x1020 ∷ Call 5 0 0x1020 ∷ []);
+      says = replicate 6 (0 ∷ 1 ∷ zeros 6);
+    }
+    ∷ vector (InP 13) (countsShown (Stop 1 ∷ [])) (2 ∷ zeros 7)
+    ∷ vector (InP 13) (countsShown (Tick 0 ∷ Tick 0 ∷ Tick 0 ∷ [])) (1 ∷ 1 ∷ zeros 6)
     ∷ []

@@ -1,4 +1,4 @@
--- Behaviours that are not to pass: worthless cores, and ours with one easy mistake in it (M1 to M6).
+-- Behaviours that are not to pass: worthless cores, and ours with one easy mistake in it (M1 to M7).
 use Prim.Native.Nat.{suc, zero, ℕ, _%_, _+_, _-_, _^_}
 use lib.Dec.{eqb, ltb}
 use lib.ListN.{getD}
@@ -27,7 +27,7 @@ use Rattle.guest.specs.declared.Found.{Found}
 use Rattle.guest.specs.declared.Vm.{Vm}
 use Rattle.history.specs.History.{Behaviour}
 use Rattle.promises.specs.Delivering.{callDelivers}
-use Rattle.queue.specs.Entries.{entries, frontOf, ofList}
+use Rattle.queue.specs.Entries.{entries, frontOf, holding, raised}
 use Rattle.vms.specs.Tick.{passed, runnerOf, turnTo}
 use Rattle.vms.specs.declared.Turn.{Turn}
 
@@ -104,7 +104,7 @@ leavesEntries c e = pick (isStop e) (withCore (innerOf c e) (withQueue (innerOf 
 
 -- D7: serves the newest entry first: a request of the master's goes to the front
 abbrev pub newestFirst : Behaviour
-newestFirst c e = pick (both (isExtra e) (isDone (stepOf c e))) (withCore (stepOf c e) (withQueue c (ofList (byteOf e ∷ entries (c .queue))))) (stepOf c e)
+newestFirst c e = pick (both (isExtra e) (isDone (stepOf c e))) (withCore (stepOf c e) (withQueue c (holding (byteOf e ∷ entries (c .queue)) (raised (byteOf e) (c .queue .counts))))) (stepOf c e)
 
 -- D3: forgets where a VM was interrupted, when another one runs next
 abbrev pub forgetsAddress : Behaviour

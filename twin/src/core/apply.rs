@@ -29,7 +29,9 @@ impl Core {
             self.flaw_at_refusal(event, refusal);
             return self.answer(refusal, Outcome::default());
         }
+        let found = self.found();
         let outcome = self.perform(event);
+        self.miscount(event, &found);
         self.answer(0, outcome)
     }
 
@@ -74,8 +76,12 @@ impl Core {
     }
 
     fn flaw_at_refusal(&mut self, event: Event, refusal: u8) {
-        if self.flaw == Flaw::RefusedTickAges && refusal == 2 && matches!(event, Event::Tick { .. }) {
-            self.age_all();
+        match (self.flaw, refusal, event) {
+            (Flaw::RefusedTickAges, 2, Event::Tick { .. }) => self.age_all(),
+            (Flaw::RefusedExtraCounts, 6, Event::Extra { vm }) => {
+                self.state.queue.vm_counts[usize::from(vm)] += 1;
+            }
+            _ => {}
         }
     }
 }

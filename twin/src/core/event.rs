@@ -14,6 +14,18 @@ pub enum Event {
     Fault { code: u8, data: u32 },
 }
 
+impl Event {
+    /// The VM whose entries all leave the queue at this event, if it is done (A8); the VM that runs is given.
+    pub fn removes_entries_of(self, running: Option<u8>) -> Option<u8> {
+        match self {
+            Event::Stop { vm } | Event::Restart { vm } => Some(vm),
+            Event::Fault { .. } | Event::Call { service: 3 | 5.., .. } => running,
+            Event::Call { service: 2, argument: 32.., .. } => running,
+            _ => None,
+        }
+    }
+}
+
 /// What the master is told: 0 nothing, 1 stopped, 2 shut down, 3 in error.
 #[derive(Clone, Copy, Debug, Default, PartialEq, Eq)]
 pub struct Notice {

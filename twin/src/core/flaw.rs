@@ -123,6 +123,70 @@ pub enum Flaw {
     LegalForgetsExecute,
     /// H5: a configuration is not legal where all VMs together hold more than eight regions.
     LegalCountsAllRegions,
+    /// T10, D20: an Extra raises no count.
+    ExtraCountsNone,
+    /// T10, D29: service 4 raises no count.
+    ServiceFourCountsNone,
+    /// T10, D20: an Extra raises the count of the VM that runs, not of the one that it names.
+    ExtraCountsRunning,
+    /// T10, D20: an Extra raises the count of the VM whose entry is the oldest.
+    ExtraCountsOldest,
+    /// T10, D29: service 4 raises the count though the queue is full.
+    FullCallCounts,
+    /// T10, R2: an Extra that is refused for a full queue raises the count.
+    RefusedExtraCounts,
+    /// T10: a count goes no further than 1.
+    CountIsFlag,
+    /// T10: a count goes round at 16.
+    CountGoesRound,
+    /// T10, D7, M7: a spare tick leaves the count of the VM whose entry it takes.
+    ServedKeepsCount,
+    /// T10, D7, M7: a spare tick lowers the count of the VM that ran before.
+    ServedLowersFormer,
+    /// T10, D7: a spare tick takes the whole count of its VM.
+    ServedClearsCount,
+    /// T10, D7: a spare tick lowers the count of the VM whose entry is the newest.
+    ServedLowersNewest,
+    /// T10, D7: a spare tick lowers every count.
+    ServedLowersAll,
+    /// T10, D6: a tick in a named slot lowers the count of its VM.
+    NamedTickLowers,
+    /// T10, D14, M7: a Stop leaves the count.
+    StopKeepsCount,
+    /// T10, D18, M7: a Restart leaves the count.
+    RestartKeepsCount,
+    /// T10, D18, D19: a Restart leaves the count of the VM that runs.
+    RunningRestartKeepsCount,
+    /// T10, D23, M7: a Fault leaves the count.
+    FaultKeepsCount,
+    /// T10, D28, M7: service 3 leaves the count.
+    ServiceThreeKeepsCount,
+    /// T10, D27, M7: service 2 with an argument over 31 leaves the count.
+    BadInjectKeepsCount,
+    /// T10, D30, M7: a Call for a service that there is not leaves the count.
+    UnknownServiceKeepsCount,
+    /// T10, D14, D18: a removal lowers the count by 1 only.
+    RemovalLowersByOne,
+    /// T10, D14, D18: a removal makes all eight counts 0.
+    RemovalClearsAll,
+    /// T10, D14, D18, M7: a removal clears the count of the VM that runs, not that of its own VM.
+    RemovalClearsRunning,
+    /// T10, D14, D18: a removal clears the counts of the VMs behind its own too.
+    RemovalClearsLaterVms,
+    /// T6, T10, D1: Start makes the count of each VM 1.
+    StartCountsOne,
+    /// T10, D17: a Shutdown clears the count, though the entries stay.
+    ShutdownClearsCount,
+    /// N9: the text has seven counts.
+    TextLeavesLastCountOut,
+    /// N9: the text has the counts of the configuration's VMs only.
+    TextCountsVmsOfImage,
+    /// N9: the counts stand before the queue.
+    TextCountsBeforeQueue,
+    /// N9: the counts stand behind the VM records.
+    TextCountsBehindVms,
+    /// N9: the counts are hexadecimal.
+    TextCountsInHex,
     /// N14: a log runs on the core that the one before it left.
     CarriesState,
     /// N14, N15: the ticks of the logs before it count for a log's place in the table.

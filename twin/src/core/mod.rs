@@ -8,6 +8,7 @@ pub mod event;
 pub mod flaw;
 pub mod limits;
 pub mod memory;
+mod miscount;
 pub mod refusal;
 pub mod region;
 pub mod state;

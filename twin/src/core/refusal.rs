@@ -52,6 +52,7 @@ impl Core {
         self.config.legal_for(self.flaw)
             && self.spare_records_fresh()
             && self.queue_sound()
+            && self.counts_sound()
             && self.start_sound()
             && self.place_sound()
             && self.running_sound()
@@ -67,6 +68,12 @@ impl Core {
         queue.count <= self.config.queue_size
             && queue.entries().iter().all(|vm| self.is_ready(*vm))
             && queue.places[usize::from(queue.count)..].iter().all(|place| *place == 0)
+    }
+
+    /// Each of the eight counts, those past the VM count too (W13).
+    fn counts_sound(&self) -> bool {
+        let queue = &self.state.queue;
+        (0..).zip(queue.vm_counts).all(|(vm, count)| count == queue.count_of(vm))
     }
 
     /// What must not be before Start and before the first tick.

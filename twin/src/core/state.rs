@@ -1,4 +1,4 @@
-//! The state of a core: its VM records, its place in the table and its queue.
+//! The state of a core: its VM records, its place in the table, its queue and the counts beside it.
 
 use crate::core::limits::{MAX_QUEUE, MAX_VMS};
 
@@ -51,6 +51,8 @@ impl Vm {
 pub struct Queue {
     pub count: u8,
     pub places: [u8; MAX_QUEUE],
+    /// The queue counts (T10): kept step by step and never counted anew, so that a mistake would show.
+    pub vm_counts: [u8; MAX_VMS],
 }
 
 impl Queue {
@@ -58,35 +60,39 @@ impl Queue {
         &self.places[..usize::from(self.count)]
     }
 
-    /// Appends an entry; there must be a free place.
+    /// Appends an entry, and the count of its VM grows; there must be a free place.
     pub fn push(&mut self, vm: u8) {
         self.places[usize::from(self.count)] = vm;
         self.count += 1;
+        self.vm_counts[usize::from(vm)] += 1;
     }
 
-    /// Takes out the entry at an index; the later ones move up.
+    /// Takes out the entry at an index, and the count of its VM falls; the later ones move up.
     pub fn take(&mut self, index: usize) -> Option<u8> {
         let vm = *self.entries().get(index)?;
         self.places.copy_within(index + 1.., index);
         self.places[MAX_QUEUE - 1] = 0;
         self.count -= 1;
+        self.vm_counts[usize::from(vm)] -= 1;
         Some(vm)
     }
 
-    /// Removes every entry of a VM and answers how many they were; the rest keep their order.
+    /// Removes every entry of a VM and answers how many they were; the rest keep their order. The count of
+    /// the VM becomes 0.
     pub fn remove(&mut self, vm: u8) -> u8 {
-        let mut rest = Queue::default();
-        for &entry in self.entries() {
-            if entry != vm {
-                rest.push(entry);
-            }
+        let mut rest = [0; MAX_QUEUE];
+        let mut staying = 0;
+        for &entry in self.entries().iter().filter(|entry| **entry != vm) {
+            rest[usize::from(staying)] = entry;
+            staying += 1;
         }
-        let removed = self.count - rest.count;
-        *self = rest;
+        let removed = self.count - staying;
+        (self.count, self.places) = (staying, rest);
+        self.vm_counts[usize::from(vm)] = 0;
         removed
     }
 
-    /// How many entries a VM has.
+    /// How many entries a VM has, counted in the queue itself.
     pub fn count_of(&self, vm: u8) -> u8 {
         self.entries().iter().map(|entry| u8::from(*entry == vm)).sum()
     }

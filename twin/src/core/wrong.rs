@@ -4,7 +4,7 @@ use crate::core::flaw::Flaw;
 
 impl Flaw {
     /// Every wrong twin of a run.
-    pub const WRONG_RUNS: [(Flaw, &'static str); 59] = [
+    pub const WRONG_RUNS: [(Flaw, &'static str); 91] = [
         (Flaw::GuestClock, "raises the guest's own copy of ticksWhileRunning"),
         (Flaw::SpareChargedToSlice, "charges a spare tick to the VM's next slice"),
         (Flaw::StopMovesTable, "moves the table on when the running VM is stopped"),
@@ -64,6 +64,38 @@ impl Flaw {
         (Flaw::LegalForgetsOwnOverlap, "takes a VM with overlapping regions for not legal"),
         (Flaw::LegalForgetsExecute, "takes a region that may be executed only for not legal"),
         (Flaw::LegalCountsAllRegions, "allows eight regions to all VMs together"),
+        (Flaw::ExtraCountsNone, "raises no count at an Extra"),
+        (Flaw::ServiceFourCountsNone, "raises no count at service 4"),
+        (Flaw::ExtraCountsRunning, "raises the count of the running VM at an Extra"),
+        (Flaw::ExtraCountsOldest, "raises the count of the VM whose entry is the oldest at an Extra"),
+        (Flaw::FullCallCounts, "raises the count at a service 4 that finds the queue full"),
+        (Flaw::RefusedExtraCounts, "raises the count at an Extra that a full queue refuses"),
+        (Flaw::CountIsFlag, "counts no further than 1"),
+        (Flaw::CountGoesRound, "counts 16 as 0"),
+        (Flaw::ServedKeepsCount, "leaves the count at a spare tick"),
+        (Flaw::ServedLowersFormer, "lowers the count of the VM that ran before at a spare tick"),
+        (Flaw::ServedClearsCount, "clears the count at a spare tick"),
+        (Flaw::ServedLowersNewest, "lowers the count of the VM whose entry is the newest at a spare tick"),
+        (Flaw::ServedLowersAll, "lowers every count at a spare tick"),
+        (Flaw::NamedTickLowers, "lowers the count at a tick in a named slot"),
+        (Flaw::StopKeepsCount, "leaves the count at a Stop"),
+        (Flaw::RestartKeepsCount, "leaves the count at a Restart"),
+        (Flaw::RunningRestartKeepsCount, "leaves the count at a Restart of the running VM"),
+        (Flaw::FaultKeepsCount, "leaves the count at a Fault"),
+        (Flaw::ServiceThreeKeepsCount, "leaves the count at service 3"),
+        (Flaw::BadInjectKeepsCount, "leaves the count at service 2 over 31"),
+        (Flaw::UnknownServiceKeepsCount, "leaves the count at a call for a service that there is not"),
+        (Flaw::RemovalLowersByOne, "lowers the count by 1 at a removal"),
+        (Flaw::RemovalClearsAll, "clears all eight counts at a removal"),
+        (Flaw::RemovalClearsRunning, "clears the count of the running VM at a removal"),
+        (Flaw::RemovalClearsLaterVms, "clears the counts of the later VMs at a removal too"),
+        (Flaw::StartCountsOne, "makes the count of each VM 1 at Start"),
+        (Flaw::ShutdownClearsCount, "clears the count at a Shutdown"),
+        (Flaw::TextLeavesLastCountOut, "prints seven counts"),
+        (Flaw::TextCountsVmsOfImage, "prints the counts of the configuration's VMs only"),
+        (Flaw::TextCountsBeforeQueue, "prints the counts before the queue"),
+        (Flaw::TextCountsBehindVms, "prints the counts behind the VM records"),
+        (Flaw::TextCountsInHex, "prints the counts in hexadecimal"),
     ];
 
     /// Every wrong twin of a report.

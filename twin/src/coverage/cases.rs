@@ -4,6 +4,7 @@ use crate::core::event::{Answer, Event};
 use crate::core::flaw::Flaw;
 use crate::core::limits::MAX_LOG_BYTES;
 use crate::core::Core;
+use crate::coverage::counts::CountCoverage;
 use crate::coverage::marks::{event_marks, image_marks, log_marks, Mark};
 use crate::coverage::regions::RegionCoverage;
 use crate::generate::image::FAULTS;
@@ -64,6 +65,8 @@ pub struct Coverage {
     delivered: [[u64; 32]; DELIVERY_NAMES.len()],
     /// A8
     removed: [[u64; REMOVED_NAMES.len()]; REMOVAL_NAMES.len()],
+    /// T10
+    counts: CountCoverage,
     /// D21, F1 to F10
     fields_written: [u64; 10],
     marks: [u64; Mark::COUNT],
@@ -85,6 +88,7 @@ impl Default for Coverage {
             results: [0; 2],
             delivered: [[0; 32]; DELIVERY_NAMES.len()],
             removed: [[0; REMOVED_NAMES.len()]; REMOVAL_NAMES.len()],
+            counts: CountCoverage::default(),
             fields_written: [0; 10],
             marks: [0; Mark::COUNT],
         }
@@ -122,6 +126,7 @@ impl Coverage {
             let answer = core.apply(event);
             self.observe_event(event, &answer);
             self.observe_removal(event, &answer, core.state.queue.count);
+            self.counts.observe(&before, event, &answer, &core);
             event_marks(&before, event, &answer, &core, &mut |mark| self.marks[mark as usize] += 1);
             at = next;
         }
@@ -185,6 +190,7 @@ impl Coverage {
         for mark in Mark::ALL {
             points.push((String::from(mark.name()), self.marks[mark as usize]));
         }
+        points.extend(self.counts.points());
         points.extend(self.regions.points());
         points
     }

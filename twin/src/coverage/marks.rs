@@ -111,7 +111,7 @@ marks! {
     IdleSpare = "run: spare slot, queue empty",
     /// D7
     SpareServed = "run: spare slot serves an entry",
-    /// A8, D7
+    /// T10, A8, D7
     SpareServesOneOfSome = "run: spare slot serves a VM that has more entries",
     /// D9
     SpareDelivers = "run: delivery in a spare tick",
@@ -125,7 +125,7 @@ marks! {
     CallFullSixteen = "run: service 4 with 16 entries",
     /// A6, R4, D29
     CallFullNone = "run: service 4 with queue size 0",
-    /// A8, D29
+    /// T10, A8, D29
     CallFullOwn = "run: service 4 with a full queue, entries of its own in it",
     /// D15
     StopRunning = "run: Stop of the running VM",
@@ -147,7 +147,7 @@ marks! {
     NobodyReady = "run: tick with no VM ready",
     /// D17, M5
     ShutdownRunning = "run: Shutdown of the running VM, 11 enabled",
-    /// A8, D17
+    /// T10, A8, D17
     ShutdownQueued = "run: Shutdown of a VM with entries",
     /// D17
     ShutdownDelivered = "run: 11 delivered",

@@ -2,6 +2,7 @@
 
 pub mod access;
 pub mod cases;
+pub mod counts;
 pub mod marks;
 pub mod query_view;
 pub mod regions;

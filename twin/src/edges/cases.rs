@@ -4,6 +4,7 @@ use crate::core::config::{Config, Slot, VmPlace, SPARE};
 use crate::core::event::Event;
 use crate::core::flaw::Flaw;
 use crate::core::limits::{MAX_LOG_BYTES, MAX_QUEUE, MAX_SLOTS, MAX_VMS};
+use crate::edges::counts::{counts_cleared, counts_of_one_vm, counts_up_and_down};
 use crate::edges::regions::{longest_config, region_cases};
 use crate::edges::removals::{removals, removals_of_none};
 use crate::generate::image::{config_of, faulty_image, legal_config, FAULTS};
@@ -34,6 +35,9 @@ pub fn edge_cases(random: &mut Random) -> Vec<Case> {
         scripted(&small(3, 4), &standings()),
         scripted(&small(2, 16), &removals()),
         scripted(&small(2, 4), &removals_of_none()),
+        scripted(&small(8, 16), &counts_up_and_down()),
+        scripted(&small(8, 16), &counts_of_one_vm()),
+        scripted(&small(8, 16), &counts_cleared()),
         scripted(&small(2, 2), &[]),
         Case { image: Vec::new(), log: log_of(&[Event::Start]) },
         Case::default(),

@@ -2,6 +2,7 @@
 
 pub mod access;
 pub mod cases;
+pub mod counts;
 pub mod regions;
 pub mod removals;
 pub mod reports;

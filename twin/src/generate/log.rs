@@ -178,7 +178,7 @@ impl<'a> LogMaker<'a> {
 
     /// A short row of events that belong together.
     fn burst(&mut self) {
-        match self.random.below(8) {
+        match self.random.below(9) {
             0 => self.fill_the_queue(),
             1 => self.raise_and_sync(),
             2 => self.generate_and_return(),
@@ -186,6 +186,7 @@ impl<'a> LogMaker<'a> {
             4 => self.whole_cycle(),
             5 => self.bend_the_clocks(),
             6 => self.inject_among_others(),
+            7 => self.fill_with_one_vm(),
             _ => self.restart_the_rest(),
         }
     }
@@ -198,6 +199,15 @@ impl<'a> LogMaker<'a> {
         }
         let next = address(self.random);
         self.push(Event::Call { service: 4, argument: 0, next });
+    }
+
+    /// One VM takes all places that are left, so that its queue count goes far (T10), and asks once more.
+    fn fill_with_one_vm(&mut self) {
+        let vm = self.vm();
+        let size = self.core.config.queue_size;
+        for _ in 0..=size.saturating_sub(self.core.state.queue.count) {
+            self.push(Event::Extra { vm });
+        }
     }
 
     fn raise_and_sync(&mut self) {

@@ -8,9 +8,13 @@ use std::process::Command;
 use twin::core::config::{Config, Slot, VmPlace, SPARE};
 use twin::core::event::Event;
 use twin::core::flaw::Flaw;
+use twin::core::limits::{MAX_LOG_BYTES, MAX_VMS};
 use twin::core::region::Region;
+use twin::core::state::Queue;
 use twin::core::Core;
+use twin::image::read::read_image;
 use twin::image::write::image_bytes;
+use twin::log::read::{read_record, Record};
 use twin::log::write::log_of;
 use twin::run::frames::Case;
 
@@ -23,6 +27,13 @@ pub fn worked_config() -> Config {
     config.slots[0] = Slot { owner: 0, ticks: 2 };
     config.slots[1] = Slot { owner: 1, ticks: 1 };
     config.slots[2] = Slot { owner: SPARE, ticks: 1 };
+    config
+}
+
+/// The worked configuration with another queue size.
+pub fn with_queue(size: u8) -> Config {
+    let mut config = worked_config();
+    config.queue_size = size;
     config
 }
 
@@ -48,6 +59,65 @@ pub fn write(offset: u8, value: u32) -> Event {
 pub fn tick(address: u32) -> Event {
     Event::Tick { address }
 }
+
+/// The six kinds of events that remove entries, for a VM 0 that runs.
+pub const REMOVING: [Event; 6] = [
+    Event::Stop { vm: 0 },
+    Event::Restart { vm: 0 },
+    Event::Fault { code: 3, data: 0 },
+    Event::Call { service: 3, argument: 0, next: 0x1020 },
+    Event::Call { service: 2, argument: 32, next: 0x1020 },
+    Event::Call { service: 5, argument: 0, next: 0x1020 },
+];
+
+/// The core that P12 and P13 begin with, as right or as wrong as asked for.
+pub fn p12_core(flaw: Flaw) -> Core {
+    let mut core = Core::fresh(with_queue(4), flaw);
+    let before = [Event::Start, tick(0), Event::Extra { vm: 0 }, Event::Extra { vm: 1 }, call(4, 0, 0x1010)];
+    for event in before {
+        let answer = core.apply(event);
+        assert_eq!((answer.refusal, answer.removed), (0, 0), "{event:?}");
+    }
+    assert_eq!(core.state.queue.entries(), [0, 1, 0]);
+    core
+}
+
+/// An event of each of the nine kinds, for VM 0 or the VM that runs.
+pub fn every_kind() -> [Event; 9] {
+    let vm = 0;
+    let (stop, shutdown) = (Event::Stop { vm }, Event::Shutdown { vm });
+    let (restart, extra) = (Event::Restart { vm }, Event::Extra { vm });
+    let fault = Event::Fault { code: 3, data: 0 };
+    [Event::Start, tick(5), stop, shutdown, restart, extra, call(0, 0, 0), write(8, 1), fault]
+}
+
+/// How many entries each VM has, counted place by place.
+pub fn counted(queue: &Queue) -> [u8; MAX_VMS] {
+    let mut counts = [0; MAX_VMS];
+    for place in 0..usize::from(queue.count) {
+        counts[usize::from(queue.places[place])] += 1;
+    }
+    counts
+}
+
+pub fn events_of(log: &[u8]) -> Vec<Event> {
+    let (mut events, mut at) = (Vec::new(), 0);
+    while let Record::Event(event, next) = read_record(log, at) {
+        events.push(event);
+        at = next;
+    }
+    events
+}
+
+/// A fresh core, where the log is run at all.
+pub fn runnable(image: &[u8], log: &[u8], flaw: Flaw) -> Option<Core> {
+    let config = read_image(image, flaw).ok().filter(|_| log.len() <= MAX_LOG_BYTES)?;
+    Some(Core::fresh(config, flaw))
+}
+
+/// How many lines an event has where its state is printed: its own, the notice, the core, the queue, the
+/// counts and the eight VM records.
+pub const STATE_LINES: usize = 13;
 
 pub fn worked_events() -> Vec<Event> {
     vec![

@@ -23,7 +23,7 @@ use Rattle.history.specs.Moments.{asks, handed, spare}
 use Rattle.history.specs.Queueing.{Add, Effect, Keep, Remove, Take, affected, effect, removedFrom, removedIn, removes}
 use Rattle.promises.proofs.Meets.Tracing.{ours-queue}
 use Rattle.promises.specs.Sharing.{Accounts}
-use Rattle.queue.proofs.Counts.{entries-add, entries-gone, entries-rest, entries-stay}
+use Rattle.queue.proofs.Counted.{entries-add, entries-gone, entries-rest, entries-stay}
 use Rattle.queue.specs.Entries.{entries, entriesOf, frontOf, others}
 
 -- ---- one moment

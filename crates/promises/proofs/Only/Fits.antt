@@ -28,8 +28,9 @@ use Rattle.promises.specs.Framing.{Field, FrameOf, StartsOf, StoresOf, m
 use Rattle.promises.specs.Refusing.{RefusedAs}
 use Rattle.promises.specs.Timing.{ClocksOf, ShowsOf, TableOf, ageIn, ranSince}
 use Rattle.promises.specs.Tracing.{RunsOf, TracedOf}
+use Rattle.queue.proofs.Counted.{counted-one}
 use Rattle.queue.proofs.Meaning.{of-entries}
-use Rattle.queue.specs.Entries.{entries, ofList}
+use Rattle.queue.specs.Entries.{Counted, entries, holding}
 use Rattle.table.specs.Place.{Stands}
 
 -- ---- what the rules say of the outcome s of the event e, after the history ms with k accepted ticks, in the state c
@@ -139,12 +140,20 @@ module _ {g : Config} {ms : List Moment} {k : ℕ} {c : Core} {e : Event} {s t :
   unfolding queueAfter
   same-entries = w .one .traced .queue ∙ told-same (queueAfter g) [] (ap (λ (f : Effect). affected f (queueIn g ms)) same-effect) ∙ sym (w .two .traced .queue)
 
-  -- a queue is its entries, with zeros behind them (W5)
-  padded : (u : Stepped) → Fits g ms k c e u → u .core .queue ≡ ofList (entries (u .core .queue))
-  padded u r = let h = sound-is (u .core) (r .sound) in of-entries (u .core .queue) (r .traced .places) (len-most (u .core) h) (queue-padded (u .core) h)
+  -- a queue is its entries, with zeros behind them (W5), and its counts
+  padded : (u : Stepped) → Fits g ms k c e u → u .core .queue ≡ holding (entries (u .core .queue)) (u .core .queue .counts)
+  padded u r = let h = sound-is (u .core) (r .sound) in of-entries (u .core .queue) (r .traced .places .items) (len-most (u .core) h) (queue-padded (u .core) h)
+
+  -- which are those of the entries (W13)
+  same-counts : s .core .queue .counts ≡ t .core .queue .counts
+  same-counts =
+      counted-one (s .core .queue .counts) (t .core .queue .counts) (entries (t .core .queue)) (w .one .traced .places .counts) (w .two .traced .places .counts)
+      (subst (λ (l : List ℕ). Counted (s .core .queue .counts) l) same-entries (sound-is (s .core) (w .one .sound) .counted))
+      (sound-is (t .core) (w .two .sound) .counted)
 
   pub same-queue : s .core .queue ≡ t .core .queue
-  same-queue = padded s (w .one) ∙ ap ofList same-entries ∙ sym (padded t (w .two))
+  same-queue =
+      padded s (w .one) ∙ ap (λ (l : List ℕ). holding l (s .core .queue .counts)) same-entries ∙ ap (holding (entries (t .core .queue))) same-counts ∙ sym (padded t (w .two))
 
   pub same-removed : s .answer .removed ≡ t .answer .removed
   same-removed = w .one .removing .count ∙ ap (λ (f : Effect). removedFrom f (queueIn g ms)) same-effect ∙ sym (w .two .removing .count)

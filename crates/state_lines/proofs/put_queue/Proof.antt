@@ -1,5 +1,7 @@
 -- The word, the entries, the line's end.
 use borrow.Author.Needs.{needs}
+use lib.ListN.{length}
+use mathlib.Core.Path.{_≡_}
 use native.Mathlib.Omega.{arith}
 use Rattle.state_lines.proofs.put_queue.Statement.{statement}
 use Rattle.state_lines.proofs.put_queue.Tie as tie
@@ -12,21 +14,24 @@ slice-aggregate-put-word c = search needs
 put-word-requires : tie.Need-put-word-requires
 put-word-requires c κs = search needs
 
+slice-aggregate-put-items : tie.Need-slice-aggregate-put-items
+slice-aggregate-put-items c = search needs
+
 least-requires : tie.Need-least-requires
 least-requires c κs = search needs
 
-put-entries-requires : tie.Need-put-entries-requires
-put-entries-requires c κs = search needs
+put-items-requires : tie.Need-put-items-requires
+put-items-requires c κs = let s : length (c .before .before .before .before .before .before .before .before .before .before .args .q .items) ≡ 16 = search needs in (omega (arith, c .least .ensures), omega (arith, c .least .ensures, c .before .before .before .before .before .put-word .ensures .1))
 
 put-byte-requires : tie.Need-put-byte-requires
-put-byte-requires c κs = search needs
+put-byte-requires c κs = omega (arith, c .before .before .before .before .least .ensures, c .before .before .before .before .before .before .before .before .before .put-word .ensures .1, c .before .before .before .put-items .ensures .1)
 
 same-length : tie.Need-same-length
 same-length c = search needs
 
 returns : tie.Need-returns
 unfolding queueText
-returns c = rw (← c .before .before .before .before .before .before .before .least .ensures) (puts-then (c .before .before .before .before .before .before .before .before .before .before .before .before .put-word .ensures .0) (puts-then (c .before .before .before .before .before .before .put-entries .ensures .0) (c .before .before .put-byte .ensures .0)), omega (arith, c .before .before .before .before .before .before .before .before .before .before .before .before .put-word .ensures .1, c .before .before .before .before .before .before .put-entries .ensures .1, c .before .before .put-byte .ensures .1))
+returns c = rw (← c .before .before .before .before .before .before .before .least .ensures) (puts-then (c .before .before .before .before .before .before .before .before .before .before .before .before .put-word .ensures .0) (puts-then (c .before .before .before .before .before .before .put-items .ensures .0) (c .before .before .put-byte .ensures .0)), omega (arith, c .before .before .before .before .before .before .before .least .ensures, c .before .before .before .before .before .before .before .before .before .before .before .before .put-word .ensures .1, c .before .before .before .before .before .before .put-items .ensures .1, c .before .before .put-byte .ensures .1))
 
 pub put-queue-spec : {M : Type 1} → statement M
 put-queue-spec =
@@ -34,8 +39,9 @@ put-queue-spec =
     (tie.spec
     slice-aggregate-put-word
     put-word-requires
+    slice-aggregate-put-items
     least-requires
-    put-entries-requires
+    put-items-requires
     put-byte-requires
     same-length
     returns)

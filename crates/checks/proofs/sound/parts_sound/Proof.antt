@@ -1,4 +1,4 @@
--- The tests that it joins are W1 to W12 (`parts-yes`, `parts-no`).
+-- The tests that it joins are W1 to W13 (`parts-yes`, `parts-no`).
 use borrow.Author.Needs.{needs}
 use mathlib.Core.Path.{refl}
 use Rattle.checks.proofs.Tests.{parts-no, parts-yes}
@@ -41,6 +41,9 @@ runner-sound-requires c κs = search needs
 numbers-known-requires : tie.Need-numbers-known-requires
 numbers-known-requires c κs = search needs
 
+counted-requires : tie.Need-counted-requires
+counted-requires c κs = search needs
+
 all-requires : tie.Need-all-requires
 all-requires c κs = search needs
 
@@ -48,10 +51,10 @@ parts-legal-requires : tie.Need-parts-legal-requires
 parts-legal-requires c κs = search needs
 
 returns : tie.Need-returns
-returns c = parts-yes _ _ _ _ _ _ _ _ _ _ _ _ _ _ _ _ (c .before .before .before .before .before .before .before .before .before .before .before .before .before .before .before .before .before .standings .ensures) (c .before .before .before .before .before .before .before .before .before .before .before .before .before .before .before .before .before .before .rest-fresh .ensures) (c .before .before .before .before .before .before .before .before .before .before .before .before .before .before .before .queue-sound .ensures) (c .before .before .before .before .before .before .before .before .before .before .before .before .before .start-sound .ensures) (c .before .before .before .before .before .before .before .before .before .before .before .duration-at .ensures) (c .before .before .before .before .before .before .before .before .before .before .clock-sound .ensures) (c .before .before .before .before .before .before .before .before .owner-at .ensures) (c .before .before .before .before .before .before .is-ready .ensures) (c .before .before .before .before .before .runner-sound .ensures) (c .before .before .before .numbers-known .ensures) (c .before .before .all .ensures) _ (c .before .if1 .taken) (c .parts-legal .ensures)
+returns c = parts-yes _ _ _ _ _ _ _ _ _ _ _ _ _ _ _ _ _ (c .before .before .before .before .before .before .before .before .before .before .before .before .before .before .before .before .before .before .standings .ensures) (c .before .before .before .before .before .before .before .before .before .before .before .before .before .before .before .before .before .before .before .rest-fresh .ensures) (c .before .before .before .before .before .before .before .before .before .before .before .before .before .before .before .before .queue-sound .ensures) (c .before .before .before .before .before .before .before .before .before .before .before .before .before .before .start-sound .ensures) (c .before .before .before .before .before .before .before .before .before .before .before .before .duration-at .ensures) (c .before .before .before .before .before .before .before .before .before .before .before .clock-sound .ensures) (c .before .before .before .before .before .before .before .before .before .owner-at .ensures) (c .before .before .before .before .before .before .before .is-ready .ensures) (c .before .before .before .before .before .before .runner-sound .ensures) (c .before .before .before .before .numbers-known .ensures) (c .before .before .before .counted .ensures) (c .before .before .all .ensures) _ (c .before .if1 .taken) (c .parts-legal .ensures)
 
 returns-2 : tie.Need-returns-2
-returns-2 c = parts-no _ _ _ _ _ _ _ _ _ _ _ _ _ _ _ _ (c .before .before .before .before .before .before .before .before .before .before .before .before .before .before .before .before .standings .ensures) (c .before .before .before .before .before .before .before .before .before .before .before .before .before .before .before .before .before .rest-fresh .ensures) (c .before .before .before .before .before .before .before .before .before .before .before .before .before .before .queue-sound .ensures) (c .before .before .before .before .before .before .before .before .before .before .before .before .start-sound .ensures) (c .before .before .before .before .before .before .before .before .before .before .duration-at .ensures) (c .before .before .before .before .before .before .before .before .before .clock-sound .ensures) (c .before .before .before .before .before .before .before .owner-at .ensures) (c .before .before .before .before .before .is-ready .ensures) (c .before .before .before .before .runner-sound .ensures) (c .before .before .numbers-known .ensures) (c .before .all .ensures) _ (c .if1 .left) refl
+returns-2 c = parts-no _ _ _ _ _ _ _ _ _ _ _ _ _ _ _ _ _ (c .before .before .before .before .before .before .before .before .before .before .before .before .before .before .before .before .before .standings .ensures) (c .before .before .before .before .before .before .before .before .before .before .before .before .before .before .before .before .before .before .rest-fresh .ensures) (c .before .before .before .before .before .before .before .before .before .before .before .before .before .before .before .queue-sound .ensures) (c .before .before .before .before .before .before .before .before .before .before .before .before .before .start-sound .ensures) (c .before .before .before .before .before .before .before .before .before .before .before .duration-at .ensures) (c .before .before .before .before .before .before .before .before .before .before .clock-sound .ensures) (c .before .before .before .before .before .before .before .before .owner-at .ensures) (c .before .before .before .before .before .before .is-ready .ensures) (c .before .before .before .before .before .runner-sound .ensures) (c .before .before .before .numbers-known .ensures) (c .before .before .counted .ensures) (c .before .all .ensures) _ (c .if1 .left) refl
 
 pub parts-sound-spec : {M : Type 1} → statement M
 parts-sound-spec =
@@ -69,6 +72,7 @@ parts-sound-spec =
     is-ready-requires
     runner-sound-requires
     numbers-known-requires
+    counted-requires
     all-requires
     parts-legal-requires
     returns

@@ -8,12 +8,13 @@ use Rattle.queue.proofs.Lists.{filled}
 use Rattle.queue.proofs.Queue.popped.Statement.{statement}
 use Rattle.queue.proofs.Queue.popped.Tie as tie
 use Rattle.queue.proofs.Turns.{filled-more, filled-none, popped-is, upward}
+use Rattle.queue.specs.Entries.{popped}
 
 abbrev Inv-loop : tie.InvT-loop
-Inv-loop items n out₀ k₀ out k = (k ≤ 15) × (out ≡ filled (upward n items) k)
+Inv-loop self items n out₀ k₀ out k = (k ≤ 15) × (out ≡ filled (upward n items) k)
 
 abbrev μ-loop : tie.MeasureT-loop
-μ-loop items n out₀ k₀ out k = 15 - k
+μ-loop self items n out₀ k₀ out k = 15 - k
 
 loop-holds : tie.Need-loop-holds Inv-loop μ-loop
 loop-holds c = search (needs, filled-none)
@@ -42,12 +43,21 @@ loop-less c = search needs
 loop-again : tie.Need-loop-again Inv-loop μ-loop
 loop-again c = (omega arith, filled-more _ _ _ _ _ (c .before .before .loop .inv .1) (c .moved-up .ensures) refl)
 
+front-requires : tie.Need-front-requires Inv-loop μ-loop
+front-requires c κs = search needs
+
 one-less-requires : tie.Need-one-less-requires Inv-loop μ-loop
 one-less-requires c κs = search needs
 
+lowered-requires : tie.Need-lowered-requires Inv-loop μ-loop
+lowered-requires c κs = search needs
+
 returns : tie.Need-returns Inv-loop μ-loop
-returns c = let s : length (c .before .before .before .before .args .self .items) ≡ 16 = search needs in
-    popped-is _ _ _ (c .before .before .loop .k) _ s (c .before .before .loop .inv .1) (omega arith) (c .one-less .ensures)
+unfolding popped
+returns c = let a = c .before .before .before .before .before .before .before .args in
+    let l = c .before .before .before .before .before .loop in
+    let s : length (a .self .items) ≡ 16 = search needs in
+    popped-is (a .self .len) (a .self .items) _ (l .k) _ _ _ s (l .inv .1) (omega arith) (c .before .one-less .ensures) (rw (← c .before .before .front .ensures) (c .lowered .ensures))
 
 pub popped-spec : {M : Type 1} → statement M
 popped-spec =
@@ -64,5 +74,7 @@ popped-spec =
     add-k
     loop-less
     loop-again
+    front-requires
     one-less-requires
+    lowered-requires
     returns)

@@ -13,10 +13,10 @@ use Rattle.queue.proofs.Turns.{filled-more, filled-none, longer, pushed
 use Rattle.queue.specs.Entries.{pushed}
 
 abbrev Inv-loop : tie.InvT-loop
-Inv-loop v n items out₀ k₀ out k = (k ≤ 16) × (out ≡ filled (longer v n items) k)
+Inv-loop self v n items out₀ k₀ out k = (k ≤ 16) × (out ≡ filled (longer v n items) k)
 
 abbrev μ-loop : tie.MeasureT-loop
-μ-loop v n items out₀ k₀ out k = 16 - k
+μ-loop self v n items out₀ k₀ out k = 16 - k
 
 loop-holds : tie.Need-loop-holds Inv-loop μ-loop
 loop-holds c = search (needs, filled-none)
@@ -42,13 +42,18 @@ loop-less c = search needs
 loop-again : tie.Need-loop-again Inv-loop μ-loop
 loop-again c = (omega arith, filled-more _ _ _ _ _ (c .before .before .loop .inv .1) (c .or-joined .ensures) refl)
 
-add-t17 : tie.Need-add-t17 Inv-loop μ-loop
-add-t17 c = search needs
+add-t18 : tie.Need-add-t18 Inv-loop μ-loop
+add-t18 c = search needs
+
+raised-requires : tie.Need-raised-requires Inv-loop μ-loop
+raised-requires c κs = search needs
 
 returns : tie.Need-returns Inv-loop μ-loop
 unfolding pushed
-returns c = let s : length (c .before .before .before .before .args .self .items) ≡ 16 = search needs in
-    rw (lt-ltb (c .before .before .before .before .args .self .len) 16 (omega arith)) (pushed-is _ _ _ _ (c .before .loop .k) s (omega arith) (c .before .loop .inv .1) (omega arith))
+returns c = let a = c .before .before .before .before .before .before .args in
+    let l = c .before .before .before .loop in
+    let s : length (a .self .items) ≡ 16 = search needs in
+    rw (lt-ltb (a .self .len) 16 (omega arith)) (pushed-is _ _ _ _ (l .k) _ _ s (omega arith) (l .inv .1) (omega arith) (c .raised .ensures))
 
 returns-2 : tie.Need-returns-2 Inv-loop μ-loop
 unfolding pushed
@@ -68,6 +73,7 @@ pushed-spec =
     add-k
     loop-less
     loop-again
-    add-t17
+    add-t18
+    raised-requires
     returns
     returns-2)
