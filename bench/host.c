@@ -51,7 +51,7 @@ static bool same_state(const core_state *a, const core_state *b) {
     const core_clock *k = &a->clock, *l = &b->clock;
     bool same = same_config(&a->config, &b->config) && k->started == l->started && k->ticked == l->ticked && k->slot == l->slot &&
                 k->left == l->left && a->running == b->running && !memcmp(a->queue.items, b->queue.items, 16) &&
-                a->queue.len == b->queue.len;
+                a->queue.len == b->queue.len && !memcmp(a->queue.counts, b->queue.counts, 8);
     for (int i = 0; i < CORE_VMS; i++) {
         const core_vm *v = &a->vms[i], *w = &b->vms[i];
         same = same && v->standing == w->standing && v->address == w->address && !memcmp(&v->status, &w->status, 40) &&

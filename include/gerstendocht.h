@@ -8,7 +8,7 @@
  * A state is a plain value: it holds no pointer, owns nothing and need not be freed. It may be copied by
  * assignment, kept in a file of the same machine, and there may be any number of them.
  *
- * Any numbers in a struct get an answer. A state that is not sound (W1 to W12), however it came about,
+ * Any numbers in a struct get an answer. A state that is not sound (W1 to W13), however it came about,
  * answers every event with refusal 1 and stays as it is. What no function can find out is this, and the
  * host has to see to it:
  *   - a pointer is not null, has the alignment of its type and points to as much memory as is said. This
@@ -85,10 +85,15 @@ typedef struct core_clock {
     uint16_t left; /* the ticks left in the slot */
 } core_clock;
 
-/* The queue for extra time: the first `len` places, the oldest entry first; the others hold zero. */
+/*
+ * The queue for extra time: the first `len` places, the oldest entry first; the others hold zero. counts[v] is how many of the
+ * entries are VM v's, in every sound state: a console need not walk the queue. The events keep the counts (T10); a host reads
+ * them, and a state in which one of the eight is wrong is not sound (W13).
+ */
 typedef struct core_queue {
     uint8_t items[16];
     uint8_t len;
+    uint8_t counts[8];
 } core_queue;
 
 /* The status block of a VM: the fields F1 to F10, at the offsets 0, 4, .. 36. */

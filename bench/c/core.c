@@ -106,13 +106,15 @@ static bool sound_vms(const core_state *c, bool *anyone) {
     return true;
 }
 
-/* W3 to W5. */
+/* W3 to W5, W13. */
 static bool sound_queue(const core_state *c) {
     const core_queue *q = &c->queue;
     if (q->len > c->config.room) return false;
     for (unsigned k = 0; k < q->len; k++)
         if (!ready(c, q->items[k])) return false;
-    return zeros(q->items + q->len, CORE_ROOM - q->len);
+    uint8_t counts[CORE_VMS] = {0};
+    for (unsigned k = 0; k < q->len; k++) counts[q->items[k]]++;
+    return zeros(q->items + q->len, CORE_ROOM - q->len) && memcmp(counts, q->counts, CORE_VMS) == 0;
 }
 
 /* W6 to W11, and W12 of the flags. */
@@ -165,6 +167,7 @@ static bool join(core_state *c, uint8_t vm) {
     core_queue *q = &c->queue;
     if (q->len >= c->config.room) return false;
     q->items[q->len++] = vm;
+    q->counts[vm]++;
     return true;
 }
 
@@ -178,6 +181,7 @@ static uint8_t leave(core_queue *q, uint8_t vm) {
     }
     for (unsigned k = kept; k < len; k++) q->items[k] = 0;
     q->len = (uint8_t)kept;
+    q->counts[vm] = 0;
     return (uint8_t)(len - kept);
 }
 
@@ -221,6 +225,7 @@ static uint8_t runner(core_state *c) {
     memmove(q->items, q->items + 1, CORE_ROOM - 1);
     q->items[CORE_ROOM - 1] = 0;
     q->len--;
+    q->counts[vm]--;
     return vm;
 }
 

@@ -9,7 +9,7 @@
 #include "gerstendocht.h"
 
 /* core.c */
-bool sound(const core_state *c);                             /* W1 to W12 */
+bool sound(const core_state *c);                             /* W1 to W13 */
 core_answer trusting(core_state *c, core_input e);           /* an event, in place, on a state that is sound */
 core_answer checked(core_state *c, core_input e);            /* the test, then the event */
 bool legal(const core_config *c);                            /* S1 to S7, H1 to H6 */

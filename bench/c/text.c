@@ -97,6 +97,8 @@ uint8_t *put_state(uint8_t *p, const core_answer *a, const core_state *c) {
     p = put_or_none(put_part(put_part(p, c->clock.slot), c->clock.left), c->running);
     p = put_text(p, "\nqueue");
     for (unsigned k = 0; k < c->queue.len; k++) p = put_part(p, c->queue.items[k]);
+    p = put_text(p, "\ncounts");
+    for (unsigned i = 0; i < CORE_VMS; i++) p = put_part(p, c->queue.counts[i]);
     *p++ = '\n';
     for (unsigned i = 0; i < CORE_VMS; i++) p = put_vm(p, i, &c->vms[i]);
     return p;

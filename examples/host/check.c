@@ -70,7 +70,8 @@ static int same_core(const core_state *a, const core_state *b)
 {
     int same = a->running == b->running && a->clock.started == b->clock.started && a->clock.ticked == b->clock.ticked &&
         a->clock.slot == b->clock.slot && a->clock.left == b->clock.left && a->queue.len == b->queue.len &&
-        memcmp(a->queue.items, b->queue.items, sizeof a->queue.items) == 0 && a->config.count == b->config.count &&
+        memcmp(a->queue.items, b->queue.items, sizeof a->queue.items) == 0 &&
+        memcmp(a->queue.counts, b->queue.counts, sizeof a->queue.counts) == 0 && a->config.count == b->config.count &&
         a->config.room == b->config.room && a->config.slots == b->config.slots;
     for (int i = 0; i < 8; i++)
         same &= a->vms[i].standing == b->vms[i].standing && a->vms[i].address == b->vms[i].address &&
@@ -116,10 +117,11 @@ static void worked_run(void)
     send(&core, CORE_TICK, 0, 0x1010, 0);
     send(&core, CORE_CALL, 1, 0, 0x1040);
     send(&core, CORE_CALL, 4, 0, 0x1014);
-    check("the queue has VM 0", core.queue.len == 1 && core.queue.items[0] == 0);
+    check("the queue has VM 0", core.queue.len == 1 && core.queue.items[0] == 0 && core.queue.counts[0] == 1);
     send(&core, CORE_CALL, 4, 0, 0x1018);
     send(&core, CORE_TICK, 0, 0x1020, 0);
     send(&core, CORE_TICK, 0, 0x2008, 0);
+    check("the queue is empty", core.queue.len == 0 && core.queue.counts[0] == 0);
     core_status s = core.vms[0].status;
     check("P1", s.since == 4 && s.left == 1 && s.enabled == 0 && s.pending == 0 && s.resume == 0x1020 &&
         s.reason == 7 && s.previous == 0x88 && s.restore == 0 && s.ontick == 0x80 && s.running == 3);
@@ -137,7 +139,7 @@ static void worked_run(void)
 }
 
 /*
- * An image of 1,036 bytes (S9), each place of it; a full queue (T5), the first tick (D1, D4), the number removed (A8); then the
+ * An image of 1,036 bytes (S9), each place of it; a full queue (T5), its counts (T10, W13), the first tick (D1, D4), the number removed (A8); then the
  * image is cut, and the core beside the fault refuses (I8, T7).
  */
 static void full_run(void)
@@ -161,6 +163,10 @@ static void full_run(void)
     for (uint8_t i = 0; i < 16; i++)
         send(&core, CORE_EXTRA, 7 - i % 8, 0, 0);
     check("the last place of the queue", core.queue.len == 16 && core.queue.items[0] == 7 && core.queue.items[15] == 0);
+    same = 1;
+    for (int i = 0; i < 8; i++)
+        same &= core.queue.counts[i] == 2;
+    check("each queue count", same);
     send(&core, CORE_TICK, 0, 0, 0);
     same = 1;
     for (int i = 0; i < 8; i++)
@@ -169,7 +175,14 @@ static void full_run(void)
     check("each VM record", same && core.running == 0 && core.vms[0].status.left == 356);
     core_answer a = send(&core, CORE_STOP, 3, 0, 0);
     check("the number removed", a.removed == 2 && core.queue.len == 14 && a.running == 0);
+    check("and no longer counted", core.queue.counts[3] == 0 && core.queue.counts[2] == 2 && core.queue.counts[4] == 2);
     check("nothing removed by a refusal", send(&core, CORE_STOP, 3, 0, 0).removed == 0);
+    for (int i = 0; i < 8; i++) {
+        core_state wrong = core;
+        wrong.queue.counts[i]++;
+        core_state before = wrong;
+        check("a wrong queue count", send_to(&wrong, 0, (core_input){.kind = CORE_TICK}).refusal == 1 && same_core(&wrong, &before));
+    }
     begun = core_fresh(b, 1035);
     check("the fault of a cut image", begun.fault == 20 && begun.offset == 1035);
     core = begun.core;

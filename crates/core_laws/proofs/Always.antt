@@ -67,7 +67,7 @@ run-good es c h = run-keeps Good good-step es c h
 pub always-good : (g : Config) → legal g ≡ true → Sized g → (es : List Event) → Good (run (freshCore g) es)
 always-good g h z es = run-good es (freshCore g) (good-fresh g h z)
 
--- W1 to W12, in every run
+-- W1 to W13, in every run
 pub always-sound : (g : Config) → legal g ≡ true → Sized g → (es : List Event) → sound (run (freshCore g) es) ≡ true
 always-sound g h z es = sound-of (run (freshCore g) es) (always-good g h z es .facts)
 

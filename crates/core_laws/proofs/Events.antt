@@ -340,7 +340,7 @@ module _ (c : Core) (p : Shaped c) (s : Sound c) where
       goes-on (a .0) (a .1) (write o x (vmAt c (c .running))) (write-standing o x (vmAt c (c .running))) (c .queue) (queued-now c s)
   done-sound (Fault k d) r = let a = row-fault c k d r in ends (a .0) (a .1) (endedAs 4 (vmAt c (c .running))) (omega arith)
 
--- W1 to W12: every event keeps them
+-- W1 to W13: every event keeps them
 pub step-facts : (c : Core) (e : Event) → Shaped c → Sound c → Sound (stepOf c e .core)
 step-facts c e p s =
     step-case c e (λ x. Sound (x .core))

@@ -77,6 +77,6 @@ pub record RefusedAs (c : Core) (e : Event) (s : Stepped) : Type 0 where
 abbrev pub Refuses : Behaviour → Type 0
 Refuses b = (c : Core) (e : Event) → RefusedAs c e (b c e)
 
--- in a run from fresh the state is sound (W1 to W12), so that line 1 never applies
+-- in a run from fresh the state is sound (W1 to W13), so that line 1 never applies
 abbrev pub StaysSound : Behaviour → Type 0
 StaysSound = AtEachState (λ g ms k c. sound c ≡ true)

@@ -38,7 +38,7 @@ unfolding stateAfter run
 state-run [] c = refl
 state-run (e ∷ es) c = state-run es (stepOf c e .core)
 
--- T6, W1 to W12
+-- T6, W1 to W13
 pub ours-stays-sound : StaysSound stepOf
 ours-stays-sound g d es = ap sound (state-run es (freshCore g)) ∙ always-sound g (d .legal) (d .sized) es
 
