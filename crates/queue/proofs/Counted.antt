@@ -123,9 +123,10 @@ counts-none items v i = zeros-at 8 v
 
 module _ (items out : List ℕ) (k : ℕ) (places : length items ≡ 16) (in-them : k < 16) (eight : length out ≡ 8) (h : Counted out (take k items)) where
   pub counts-more : (y : ℕ) (l : List ℕ) → y ≡ (getD out (getD items k 0) 0 + 1) % 2 ^ 8 → l ≡ set out (getD items k 0) y → (length l ≡ 8) × Counted l (take (k + 1) items)
-  counts-more y l e f =
-      (ap length f ∙ length-set out (getD items k 0) y ∙ eight,
-      rw (f, e, add-one k, take-suc items k 0 (omega arith)) (counted-raised out (take k items) eight h (getD items k 0) (omega (arith, length-take k items))))
+  counts-more y l e f = (
+    ap length f ∙ length-set out (getD items k 0) y ∙ eight,
+    rw (f, e, add-one k, take-suc items k 0 (omega arith)) (counted-raised out (take k items) eight h (getD items k 0) (omega (arith, length-take k items))),
+  )
 
   pub counts-past : (l : List ℕ) → 8 ≤ getD items k 0 → l ≡ out → (length l ≡ 8) × Counted l (take (k + 1) items)
   counts-past l g e = counts-more ((getD out (getD items k 0) 0 + 1) % 2 ^ 8) l refl (e ∙ set-past out 8 (getD items k 0) _ eight g)
