@@ -92,8 +92,8 @@ typedef struct core_clock {
  */
 typedef struct core_queue {
     uint8_t items[16];
-    uint8_t len;
     uint8_t counts[8];
+    uint8_t len;
 } core_queue;
 
 /* The status block of a VM: the fields F1 to F10, at the offsets 0, 4, .. 36. */

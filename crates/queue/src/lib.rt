@@ -14,8 +14,8 @@ ghost use Rattle.queue.specs.Entries.{cleared, countedOf, entries, front
 #[repr(C)]
 pub struct Queue {
     pub items: [u8; 16], // VM numbers
-    pub len: u8, // how many of them are entries
     pub counts: [u8; 8], // how many of the entries are each VM's
+    pub len: u8, // how many of the places are entries
 }
 
 // A queue that a VM's entries have left, and how many those were (A8).
