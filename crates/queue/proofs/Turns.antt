@@ -12,7 +12,7 @@ use native.Mathlib.Decide.{decLt}
 use native.Mathlib.Numerals.{add-one}
 use native.Mathlib.Omega.{arith}
 use Rattle.basis.proofs.Laws.{every-more, every-of, false-true, or-none}
-use Rattle.basis.specs.Choice.{both, either, pick}
+use Rattle.basis.specs.Choice.{either, pick}
 use Rattle.basis.specs.Count.{every, upTo}
 use Rattle.queue.proofs.Lists.{filled, filled-is, length-pad, pad, pad-at, pad-snoc, past-at, snoc-at, take-at-in, take-at-pick}
 use Rattle.queue.proofs.Meaning.{others-append, others-count, others-drops, others-keeps, others-length, queue-is, rest-at, rest-length}

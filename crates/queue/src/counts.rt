@@ -24,14 +24,14 @@ pub fn lowered(counts: [u8; 8], v: u8) -> [u8; 8]
     let i = v as usize;
     if i < 8 {
         let mut out = counts;
-        out[i] = one_off(counts[i]);
+        out[i] = one_less(counts[i]);
         return out;
     }
     counts
 }
 
 // One less, and none below none.
-fn one_off(n: u8) -> u8
+pub fn one_less(n: u8) -> u8
     ensures { λ r. ⌜ r ≡ n - 1 ⌝ }
 {
     if n == 0 {
@@ -53,7 +53,8 @@ pub fn cleared(counts: [u8; 8], v: u8) -> [u8; 8]
     counts
 }
 
-// The counts of the first n places: none, and one more for each of them.
+// The counts of the first n places: none, and one more for each of them. They grow where they stand, as a loop cannot take an
+// array from a call.
 pub fn counts_of(items: [u8; 16], n: u8) -> [u8; 8]
     requires { ⌜ n ≤ 16 ⌝ }
     ensures { λ r. ⌜ Counted r (take n items) ⌝ }

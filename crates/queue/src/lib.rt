@@ -3,7 +3,7 @@
 mod counts;
 
 use basis::tests::fault;
-ghost use Prim.Native.Nat.{min, _+_, _-_, _<_};
+ghost use Prim.Native.Nat.{min, _+_, _<_};
 ghost use lib.Dec.{eqb, ltb};
 ghost use mathlib.Core.Bool.{false, true};
 ghost use mathlib.Core.Path.{_≡_};
@@ -87,7 +87,7 @@ impl Queue {
         let oldest = self.front();
         Queue {
             items: out,
-            len: one_less(n),
+            len: counts::one_less(entry_count(n)),
             counts: counts::lowered(counts, oldest),
         }
     }
@@ -200,19 +200,6 @@ fn entry_count(n: u8) -> u8
         return Queue::PLACES;
     }
     n
-}
-
-// How many entries are left of n when one has left; no more than 16 are entries.
-fn one_less(n: u8) -> u8
-    ensures { λ r. ⌜ r ≡ min n 16 - 1 ⌝ }
-{
-    if n == 0 {
-        return 0;
-    }
-    if Queue::PLACES < n {
-        return Queue::PLACES - 1;
-    }
-    n - 1
 }
 
 // What place k holds when v has joined at the place `end`, the first past the entries; x is what it held.

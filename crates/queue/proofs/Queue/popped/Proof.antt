@@ -46,6 +46,9 @@ loop-again c = (omega arith, filled-more _ _ _ _ _ (c .before .before .loop .inv
 front-requires : tie.Need-front-requires Inv-loop μ-loop
 front-requires c κs = search needs
 
+entry-count-requires : tie.Need-entry-count-requires Inv-loop μ-loop
+entry-count-requires c κs = search needs
+
 one-less-requires : tie.Need-one-less-requires Inv-loop μ-loop
 one-less-requires c κs = search needs
 
@@ -54,10 +57,10 @@ lowered-requires c κs = search needs
 
 returns : tie.Need-returns Inv-loop μ-loop
 unfolding popped
-returns c = let a = c .before .before .before .before .before .before .before .args in
-    let l = c .before .before .before .before .before .loop in
+returns c = let a = c .before .before .before .before .before .before .before .before .args in
+    let l = c .before .before .before .before .before .before .loop in
     let s : length (a .self .items) ≡ 16 = search needs in
-    popped-is (a .self .len) (a .self .items) _ (l .k) _ _ _ s (l .inv .1) (omega arith) (c .before .one-less .ensures) (rw (← c .before .before .front .ensures) (c .lowered .ensures))
+    popped-is (a .self .len) (a .self .items) _ (l .k) _ _ _ s (l .inv .1) (omega arith) (rw (← c .before .before .entry-count .ensures) (c .before .one-less .ensures)) (rw (← c .before .before .before .front .ensures) (c .lowered .ensures))
 
 pub popped-spec : {M : Type 1} → statement M
 popped-spec =
@@ -75,6 +78,7 @@ popped-spec =
     loop-less
     loop-again
     front-requires
+    entry-count-requires
     one-less-requires
     lowered-requires
     returns)
