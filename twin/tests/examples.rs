@@ -5,9 +5,10 @@ mod common;
 use std::fs;
 use std::path::PathBuf;
 
-use common::{worked_case, worked_lines};
+use common::{events_of, worked_case, worked_lines, STATE_LINES};
 use twin::access::folder::AccessFolder;
 use twin::core::flaw::Flaw;
+use twin::core::limits::MAX_VMS;
 use twin::image::read::read_image;
 use twin::readable_text::parse::{access_folder_of, case_of, report_folder_of};
 use twin::report::folder::ReportFolder;
@@ -15,6 +16,9 @@ use twin::run::frames::Case;
 use twin::run::text::{run_text, Detail};
 
 const NAMES: [&str; 5] = ["worked", "stopped-model", "extra-time", "thrown-away", "refused-image"];
+
+/// The examples that hold the whole states of their run too.
+const NAMES_WITH_STATES: [&str; 1] = ["thrown-away"];
 
 fn file(example: &str, name: &str) -> Vec<u8> {
     let path = PathBuf::from(env!("CARGO_MANIFEST_DIR")).join("../examples").join(example).join(name);
@@ -41,6 +45,31 @@ fn the_files_of_each_example_make_its_expected_output() {
         let case = files(name);
         let text = run_text(&case.image, &case.log, Detail::Lines, Flaw::None);
         assert_eq!(String::from_utf8(text), String::from_utf8(file(name, "expected")), "{name}");
+    }
+}
+
+/// The line of the counts that belongs behind this line of the queue.
+fn counts_line_for(queue_line: &str) -> String {
+    let entries: Vec<&str> = queue_line.split(' ').skip(1).collect();
+    let entries_of = |vm: usize| entries.iter().filter(|entry| **entry == vm.to_string()).count();
+    (0..MAX_VMS).fold("counts".to_string(), |line, vm| format!("{line} {}", entries_of(vm)))
+}
+
+/// A8, D7, T10, N9: whole states, with the counts of a queue that fills, is served and loses requests.
+#[test]
+fn the_files_of_an_example_make_its_expected_states_with_the_counts_of_the_queue() {
+    for name in NAMES_WITH_STATES {
+        let case = files(name);
+        let text = run_text(&case.image, &case.log, Detail::States, Flaw::None);
+        let text = String::from_utf8(text).expect("ascii");
+        assert_eq!(text, String::from_utf8(file(name, "expected-state")).expect("ascii"), "{name}");
+        let lines: Vec<&str> = text.lines().collect();
+        assert_eq!(lines.len(), events_of(&case.log).len() * STATE_LINES, "{name}");
+        for state in lines.chunks(STATE_LINES) {
+            let (queue_line, counts_line) = (state[3], state[4]);
+            assert!(queue_line.starts_with("queue"), "{name}: {state:?}");
+            assert_eq!(counts_line, counts_line_for(queue_line), "{name}: {state:?}");
+        }
     }
 }
 

@@ -19,10 +19,10 @@ use Rattle.core.specs.State.{Shaped, idle, ownerNow, readyAt, vmAt}
 use Rattle.core.specs.declared.Core.{Core}
 use Rattle.guest.proofs.Facts.{fresh-is, fresh-of}
 use Rattle.guest.specs.Record.{fresh, lastStanding}
-use Rattle.queue.proofs.Counted.{counted-is, counted-of}
+use Rattle.queue.proofs.Counted.{counted-is, counted-of, entries-few, entries-none}
 use Rattle.queue.proofs.Lists.{take-at-in}
 use Rattle.queue.proofs.Meaning.{all-map, all-of, entries-length, of-entries}
-use Rattle.queue.specs.Entries.{All, entries, holding, paddedOf, rest}
+use Rattle.queue.specs.Entries.{All, entries, entriesOf, holding, paddedOf, rest}
 use Rattle.table.specs.Position.{hasTicked, isStarted}
 use Rattle.vms.specs.Records.{restFresh}
 
@@ -291,3 +291,13 @@ module _ (c : Core) (p : Shaped c) (s : Sound c) where
 
   pub entries-below : All (λ x. x < c .config .count) (entries (c .queue))
   entries-below = all-map _ _ (λ x r. ready-below c (p .records) s x r) (entries (c .queue)) entries-ready
+
+  -- W13: a number past the VM count has no entry, so its count is 0
+  pub past-uncounted : (v : ℕ) → c .config .count ≤ v → v < 8 → getD (c .queue .counts) v 0 ≡ 0
+  past-uncounted v h i = s .counted v i ∙ entries-none v (entries (c .queue)) (all-map _ _ (λ x l. omega arith) (entries (c .queue)) entries-below)
+
+  -- W7, W13: before Start all counts are 0
+  pub unstarted-uncounted : isStarted (c .clock) ≡ false → (v : ℕ) → v < 8 → getD (c .queue .counts) v 0 ≡ 0
+  unstarted-uncounted h v i =
+      let z : entriesOf v (entries (c .queue)) ≡ 0 = omega (arith, entries-few v (entries (c .queue)), entries-len, s .unstarted h .1) in
+      s .counted v i ∙ z

@@ -17,7 +17,7 @@ use Rattle.basis.specs.Count.{every}
 use Rattle.basis.specs.Nobody.{nobody}
 use Rattle.queue.proofs.Lists.{set-past, zeros-at}
 use Rattle.queue.proofs.Meaning.{others-count}
-use Rattle.queue.specs.Entries.{Counted, cleared, countedOf, entries, entriesOf, frontOf, lowered, others, raised, rest}
+use Rattle.queue.specs.Entries.{All, Counted, cleared, countedOf, entries, entriesOf, frontOf, lowered, others, raised, rest}
 use Rattle.queue.specs.declared.Queue.{Queue}
 
 -- a front that is a VM leaves the rest behind it
@@ -75,6 +75,12 @@ entries-stay v w (x ∷ q) n = go (eqb x w) (eqb x v) (entries-stay v w q n) ref
 -- no VM has more entries than there are
 pub entries-few : (v : ℕ) (l : List ℕ) → entriesOf v l ≤ length l
 entries-few v l = omega (arith, others-count v l)
+
+-- and none where no entry is its
+pub entries-none : (v : ℕ) (l : List ℕ) → All (λ x. x < v) l → entriesOf v l ≡ 0
+unfolding entriesOf
+entries-none v [] a = refl
+entries-none v (x ∷ l) a = rw (ne-eqb x v (λ e. omega (arith, a .0))) (entries-none v l (a .1))
 
 -- ---- the queue counts (T10): each change keeps them those of the entries
 
