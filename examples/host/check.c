@@ -10,12 +10,13 @@
 
 _Static_assert(sizeof(core_regions) == 644, "core_regions");
 _Static_assert(sizeof(core_config) == 904, "core_config");
+_Static_assert(sizeof(core_queue) == 25, "core_queue");
 _Static_assert(sizeof(core_vm) == 56, "core_vm");
-_Static_assert(sizeof(core_state) == 1376, "core_state");
+_Static_assert(sizeof(core_state) == 1384, "core_state");
 _Static_assert(sizeof(core_input) == 12, "core_input");
 _Static_assert(sizeof(core_answer) == 24, "core_answer");
-_Static_assert(sizeof(core_stepped) == 1400, "core_stepped");
-_Static_assert(sizeof(core_begun) == 1392, "core_begun");
+_Static_assert(sizeof(core_stepped) == 1408, "core_stepped");
+_Static_assert(sizeof(core_begun) == 1400, "core_begun");
 
 static unsigned passed, failed;
 
