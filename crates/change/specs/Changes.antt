@@ -1,4 +1,4 @@
--- The changes of one VM that events share (D11 to D30): what becomes of it, of who runs and of the queue, and what is told.
+-- The changes of one VM that events share (D11 to D36): what becomes of it, of who runs and of the queue, and what is told.
 use Prim.Native.Nat.{ℕ}
 use lib.Dec.{eqb, leb, ltb}
 use mathlib.Core.Bool.{Bool}
@@ -82,3 +82,7 @@ calledFrom running queue noRoom handler v service argument vm =
     (pick (eqb service 3) (endingFrom running queue v vm downStanding (noticeOf 2 v))
     (pick (eqb service 4) (pick noRoom (turnedAwayFrom running queue v vm) (queueingFrom running queue v vm))
     (failingFrom running queue v vm 1 service)))))
+
+-- Copy: D31 to D36, for VM v, whose next address is stored in vm: a failure ends it in error, and else it goes on; code 0 means that nothing failed
+unfoldable pub copyingFrom : ℕ → Queue → ℕ → Vm → ℕ → ℕ → Change
+copyingFrom running queue v vm code detail = pick (eqb code 0) (renewedFrom running queue v vm nobody) (failingFrom running queue v vm code detail)

@@ -10,7 +10,7 @@ ghost use mathlib.Core.Path.{_≡_};
 ghost use Rattle.basis.specs.Choice.{pick};
 ghost use Rattle.basis.specs.Nobody.{nobody};
 ghost use Rattle.change.specs.Answers.{errorOf, noticeOf};
-ghost use Rattle.change.specs.Changes.{answerBy, calledFrom, deliveringFrom, endingFrom, failingFrom, renewedFrom, restartingFrom, runningWithout, tickingFrom, turnedAwayFrom};
+ghost use Rattle.change.specs.Changes.{answerBy, calledFrom, copyingFrom, deliveringFrom, endingFrom, failingFrom, renewedFrom, restartingFrom, runningWithout, tickingFrom, turnedAwayFrom};
 ghost use Rattle.guest.specs.Deliver.{deliver};
 ghost use Rattle.guest.specs.Record.{errorStanding, pend, stoppedStanding};
 ghost use Rattle.queue.specs.Entries.{pushed};
@@ -177,6 +177,16 @@ impl Change {
             return Change::queueing(v, vm, running, queue);
         }
         Change::failing(v, vm, running, queue, 1, service as u32)
+    }
+
+    // D31 to D36: what a Copy makes of VM v, whose next address is stored; code 0 means that nothing failed.
+    pub fn copying(v: u8, vm: Vm, running: u8, queue: Queue, code: u8, detail: u32) -> Change
+        ensures { λ r. ⌜ r ≡ copyingFrom running queue v vm code detail ⌝ }
+    {
+        if code == 0 {
+            return Change::renewed(v, vm, running, queue, Answer::NOTHING);
+        }
+        Change::failing(v, vm, running, queue, code, detail)
     }
 
     // D27: the number becomes pending, then there is a delivery.

@@ -7,6 +7,7 @@ use change::Answer;
 use change::Change;
 use checks::rows;
 use config::Config;
+use copies::Failure;
 use event::Event;
 use guest::Vm;
 use queue::Queue;
@@ -125,7 +126,7 @@ impl Core {
         }
     }
 
-    // D14 to D30: the events that are about one VM, read and stored at its number modulo 8, with no branch over the records.
+    // D14 to D36: the events that are about one VM, read and stored at its number modulo 8, with no branch over the records.
     fn change_after(self, e: Event) -> After
         ensures { λ r. ⌜ r ≡ partsOf (changeIn self e) ⌝ }
     {
@@ -147,7 +148,19 @@ impl Core {
         let full = room <= queue.len;
         let entry = places::word_at(&entries, place as usize);
         let handler = places::word_at(&handlers, place as usize);
-        let d = change_unless(n, e, place, vm, running, queue, full, entry, handler);
+        let failure = logic::failure_of(e, running, config.regions);
+        let d = change_unless(
+            n,
+            e,
+            place,
+            vm,
+            running,
+            queue,
+            full,
+            entry,
+            handler,
+            failure,
+        );
         let y = d.vm;
         w[i] = y.or_kept(place < 8, old);
         let runs = w[(d.running % 8) as usize];
@@ -173,11 +186,23 @@ fn change_unless(
     full: bool,
     entry: u32,
     handler: u32,
+    failure: Failure,
 ) -> Change
-    ensures { λ r. ⌜ r ≡ pick (eqb n 0) (changeFrom e place vm running queue full 0 entry handler) (renewedFrom running queue place vm nobody) ⌝ }
+    ensures { λ r. ⌜ r ≡ pick (eqb n 0) (changeFrom e place vm running queue full 0 entry handler failure) (renewedFrom running queue place vm nobody) ⌝ }
 {
     if n == 0 {
-        return logic::change_of(e, place, vm, running, queue, full, 0, entry, handler);
+        return logic::change_of(
+            e,
+            place,
+            vm,
+            running,
+            queue,
+            full,
+            0,
+            entry,
+            handler,
+            failure,
+        );
     }
     Change::renewed(place, vm, running, queue, Answer::NOTHING)
 }

@@ -56,7 +56,7 @@ impl Core {
         }
     }
 
-    // Whether W1 to W12 hold.
+    // Whether W1 to W13 hold.
     pub fn sound(self) -> bool
         ensures { λ r. ⌜ r ≡ sound self ⌝ }
     {

@@ -32,7 +32,6 @@ countsOf g = record { count = g .count; room = g .room; slots = g .slots }
 abbrev pub standOf : Core → Stand
 standOf c = record { clock = c .clock; running = c .running; queue = c .queue }
 
--- no event looks at the regions, so the engine does not have them
 abbrev pub configOf : Counts → List ℕ → List ℕ → List ℕ → List ℕ → Regions → Config
 configOf g owners durations entries handlers regions =
     record { count = g .count; room = g .room; slots = g .slots; entries = entries; handlers = handlers; owners = owners; durations = durations; regions = regions }

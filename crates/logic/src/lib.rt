@@ -3,11 +3,13 @@
 use change::Answer;
 use change::Change;
 use checks::rows;
+use copies::Failure;
 use event::Event;
 use guest::Vm;
 use queue::Queue;
+use regions::Regions;
 ghost use mathlib.Core.Path.{_≡_};
-ghost use Rattle.logic.specs.Changing.{changeFrom, placeFrom};
+ghost use Rattle.logic.specs.Changing.{changeFrom, failureFrom, placeFrom};
 ghost use Rattle.logic.specs.Rows.{rowFrom};
 
 // The VM that an event is about (E11): the one that the master names, or the one that runs; NOBODY for Start and Tick.
@@ -24,6 +26,7 @@ pub fn place_of(e: Event, running: u8) -> u8
         Event::Call(_, _, _) => running,
         Event::Write(_, _) => running,
         Event::Fault(_, _) => running,
+        Event::Copy(_, _) => running,
     }
 }
 
@@ -49,6 +52,17 @@ pub fn row_of(
         Event::Call(_, _, _) => rows::of_running(started, running),
         Event::Write(offset, _) => rows::of_write(started, running, offset),
         Event::Fault(code, _) => rows::of_fault(started, running, code),
+        Event::Copy(_, _) => rows::of_running(started, running),
+    }
+}
+
+// What fails in an event of the VM that runs: of a Copy that of its extents (D33, D34), of every other event nothing.
+pub fn failure_of(e: Event, running: u8, regions: Regions) -> Failure
+    ensures { λ r. ⌜ r ≡ failureFrom e running regions ⌝ }
+{
+    match e {
+        Event::Copy(p, w) => copies::failure_of(regions, running, w, p),
+        _ => Failure::told(0, 0),
     }
 }
 
@@ -64,8 +78,9 @@ pub fn change_of(
     left: u32,
     entry: u32,
     handler: u32,
+    failure: Failure,
 ) -> Change
-    ensures { λ r. ⌜ r ≡ changeFrom e place vm running queue full left entry handler ⌝ }
+    ensures { λ r. ⌜ r ≡ changeFrom e place vm running queue full left entry handler failure ⌝ }
 {
     match e {
         Event::Start => Change::renewed(place, vm, running, queue, Answer::NOTHING),
@@ -97,5 +112,16 @@ pub fn change_of(
             Answer::NOTHING,
         ),
         Event::Fault(code, detail) => Change::failing(place, vm, running, queue, code, detail),
+        Event::Copy(p, _) => {
+            let saved = vm.saved(p.next);
+            Change::copying(
+                place,
+                saved,
+                running,
+                queue,
+                failure.code,
+                failure.detail,
+            )
+        }
     }
 }

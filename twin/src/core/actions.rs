@@ -11,6 +11,9 @@ pub const SHUTDOWN_NUMBER: u32 = 11;
 /// Error codes that the core itself gives.
 pub const CODE_UNKNOWN_SERVICE: u8 = 1;
 pub const CODE_BAD_ARGUMENT: u8 = 2;
+pub const CODE_NO_ACCESS: u8 = 3;
+pub const CODE_TOO_MANY_EXTENTS: u8 = 6;
+pub const CODE_EXTENT_TOO_LONG: u8 = 7;
 
 impl Core {
     /// Takes a VM out of ready, its queue entries with it, and the core from it if it was running.
@@ -100,6 +103,7 @@ impl Core {
                 self.state.queue.push(vm);
                 Outcome::default()
             }
+            5 if self.flaw == Flaw::ServiceFiveIsDone => Outcome::default(),
             _ => self.unknown_service(service),
         }
     }

@@ -1,10 +1,12 @@
-//! One core: configuration and state together, the fresh core, and the way of every event.
+//! One core: configuration and state together, the fresh core, and the way of every event, with the window
+//! that the host lends for it.
 
 use crate::core::config::Config;
 use crate::core::event::{Answer, Event, Notice, Outcome};
 use crate::core::flaw::Flaw;
 use crate::core::limits::MAX_VMS;
 use crate::core::state::{Standing, State, Vm};
+use crate::core::window::{Window, WindowPlace};
 
 #[derive(Clone, Debug, PartialEq, Eq)]
 pub struct Core {
@@ -22,20 +24,33 @@ impl Core {
         Core { config, state: State::default(), flaw, owed: [0; MAX_VMS] }
     }
 
-    /// Takes one event: refuses it and changes nothing, or does it.
+    /// Takes one event, with the window that a log is run with (L6). Its bytes do not matter here (D37).
     pub fn apply(&mut self, event: Event) -> Answer {
+        self.apply_within(event, WindowPlace::OF_A_LOG)
+    }
+
+    /// Takes one event and does to the bytes of the window what it asks for (E14).
+    pub fn apply_on(&mut self, event: Event, window: &mut Window) -> Answer {
+        let moving = self.extents_to_move(event, window.place());
+        let answer = self.apply_within(event, window.place());
+        window.take_copies(&moving, self.flaw);
+        answer
+    }
+
+    /// Takes one event: refuses it and changes nothing, or does it.
+    pub fn apply_within(&mut self, event: Event, place: WindowPlace) -> Answer {
         let refusal = self.refusal_of(event);
         if refusal != 0 {
             self.flaw_at_refusal(event, refusal);
             return self.answer(refusal, Outcome::default());
         }
         let found = self.found();
-        let outcome = self.perform(event);
+        let outcome = self.perform(event, place);
         self.miscount(event, &found);
         self.answer(0, outcome)
     }
 
-    fn perform(&mut self, event: Event) -> Outcome {
+    fn perform(&mut self, event: Event, place: WindowPlace) -> Outcome {
         match event {
             Event::Start => self.start(),
             Event::Tick { address } => self.tick(address),
@@ -51,6 +66,7 @@ impl Core {
             Event::Call { service, argument, next } => self.call(service, argument, next),
             Event::Write { offset, value } => self.write(offset, value),
             Event::Fault { code, data } => self.fault(code, data),
+            Event::Copy(request) => self.copy(&request, place),
         }
     }
 

@@ -29,7 +29,7 @@ impl Core {
             Event::Call { service: 4, .. } => self.miscount_call(found),
             Event::Tick { .. } => self.miscount_tick(found),
             _ => {
-                if let Some(vm) = event.removes_entries_of(found.running) {
+                if let Some(vm) = event.removes_entries_of(found.running, self.state.running) {
                     self.miscount_removal(event, vm, found);
                 }
             }
@@ -123,6 +123,7 @@ fn keeps_count(flaw: Flaw, event: Event, running: Option<u8>) -> bool {
         Flaw::ServiceThreeKeepsCount => matches!(event, Event::Call { service: 3, .. }),
         Flaw::BadInjectKeepsCount => matches!(event, Event::Call { service: 2, .. }),
         Flaw::UnknownServiceKeepsCount => matches!(event, Event::Call { service: 5.., .. }),
+        Flaw::CopyKeepsCount => matches!(event, Event::Copy(_)),
         _ => false,
     }
 }

@@ -2,6 +2,7 @@
 
 use crate::core::config::SPARE;
 use crate::core::event::Event;
+use crate::core::flaw::Flaw;
 use crate::core::state::{Standing, Vm, FIELD_COUNT};
 use crate::core::Core;
 
@@ -14,6 +15,7 @@ impl Core {
         match (event, self.state.started) {
             (Event::Start, true) => 7,
             (Event::Start, false) => 0,
+            (Event::Copy(_), false) if self.flaw == Flaw::CopyBeforeStartTaken => 0,
             (_, false) => 2,
             (_, true) => self.refusal_when_started(event),
         }
@@ -29,6 +31,7 @@ impl Core {
                 0 if self.queue_full() => 6,
                 refusal => refusal,
             },
+            Event::Copy(_) if self.flaw == Flaw::CopyByNobodyTaken => 0,
             _ if self.state.running.is_none() => 5,
             Event::Write { offset, .. } if !is_field_offset(offset) => 8,
             Event::Fault { code, .. } if !(3..=5).contains(&code) => 9,

@@ -167,7 +167,7 @@ impl CountCoverage {
 
     fn observe_removal(&mut self, before: &Core, event: Event, after: &Core) {
         let running = before.state.running;
-        let Some(vm) = event.removes_entries_of(running) else {
+        let Some(vm) = event.removes_entries_of(running, after.state.running) else {
             return;
         };
         let (was, others_stay) = (count(before, vm), after.state.queue.count > 0);

@@ -3,8 +3,8 @@
 use crate::access::folder::AccessFolder;
 use crate::access::query::Query;
 use crate::core::config::SPARE;
-use crate::core::event::Event;
-use crate::core::limits::MAX_REPORT_LOGS;
+use crate::core::event::{CopyRequest, Event, Extent};
+use crate::core::limits::{MAX_EXTENTS, MAX_REPORT_LOGS};
 use crate::core::region::Region;
 use crate::image::read::{KIND_CORE, KIND_END, KIND_SLOT, KIND_VM};
 use crate::image::write::region_record;
@@ -170,11 +170,29 @@ fn event_of(word: &str, words: &mut Words) -> Result<Event, String> {
             let code = words.labelled("code", 8)? as u8;
             Ok(Event::Fault { code, data: words.labelled("data", 32)? })
         }
+        "copy" => Ok(Event::Copy(copy_request_of(words)?)),
         _ => {
-            let known = "start, tick, stop, shutdown, restart, extra, call, write, fault or raw";
+            let known = "start, tick, stop, shutdown, restart, extra, call, write, fault, copy or raw";
             Err(unknown(word, known))
         }
     }
+}
+
+/// The count and the next address, then up to eight extents; those that the line leaves out are zero.
+fn copy_request_of(words: &mut Words) -> Result<CopyRequest, String> {
+    let (count, next) = (words.labelled("count", 8)? as u8, words.labelled("next", 32)?);
+    let mut named = Vec::new();
+    while let Some(word) = words.next() {
+        if word != "extent" {
+            return Err(unknown(word, "'extent SOURCE DESTINATION LENGTH'"));
+        }
+        if named.len() == MAX_EXTENTS {
+            return Err(unknown(word, &format!("no more extents than {MAX_EXTENTS}")));
+        }
+        let (source, destination) = (words.number("extent", 32)?, words.number("extent", 32)?);
+        named.push(Extent { source, destination, length: words.number("extent", 32)? });
+    }
+    Ok(CopyRequest { count, ..CopyRequest::of(next, &named) })
 }
 
 /// The bytes of a `raw` line: two hexadecimal digits each.

@@ -5,7 +5,7 @@ use std::fmt::Write;
 use crate::access::folder::AccessFolder;
 use crate::access::query::{queries_of, Query};
 use crate::core::config::SPARE;
-use crate::core::event::Event;
+use crate::core::event::{CopyRequest, Event, Extent};
 use crate::core::flaw::Flaw;
 use crate::image::read::{image_body_length, KIND_CORE, KIND_END, KIND_REGION, KIND_SLOT, KIND_VM};
 use crate::log::read::{read_record, Record};
@@ -111,7 +111,18 @@ pub fn event_line(event: Event) -> String {
         }
         Event::Write { offset, value } => format!("write offset {offset} value {value:#x}"),
         Event::Fault { code, data } => format!("fault code {code} data {data:#x}"),
+        Event::Copy(request) => copy_line(&request),
     }
+}
+
+/// The line of a Copy. Extents of zeros at its end are left out, within the count too.
+fn copy_line(request: &CopyRequest) -> String {
+    let mut line = format!("copy count {} next {:#x}", request.count, request.next);
+    let named = request.extents.iter().rposition(|extent| *extent != Extent::default());
+    for Extent { source, destination, length } in &request.extents[..named.map_or(0, |last| last + 1)] {
+        let _ = write!(line, " extent {source:#x} {destination:#x} {length}");
+    }
+    line
 }
 
 /// The line of a query.
