@@ -9,6 +9,7 @@ pub mod edges;
 pub mod generate;
 pub mod image;
 pub mod log;
+pub mod memlog;
 pub mod readable_text;
 pub mod report;
 pub mod run;

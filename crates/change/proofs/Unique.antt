@@ -21,6 +21,8 @@ use Rattle.change.proofs.Change.turned_away.Kinds as turned-aways
 use Rattle.change.proofs.Change.turned_away.Reads as turned-away
 use Rattle.change.proofs.Change.called.Kinds as calleds
 use Rattle.change.proofs.Change.called.Reads as called
+use Rattle.change.proofs.Change.copying.Kinds as copyings
+use Rattle.change.proofs.Change.copying.Reads as copying
 use Rattle.change.proofs.Change.ticking.Kinds as tickings
 use Rattle.change.proofs.Change.ticking.Reads as ticking
 use Rattle.change.proofs.Change.stopping.Kinds as stoppings
@@ -66,3 +68,6 @@ stopping-one κs a x y s t p q = p ∙ sym q
 
 pub answer-one : OneAnswer 0 answers.ps answers.r answer.Post
 answer-one κs a x y s t p q = p ∙ sym q
+
+pub copying-one : OneAnswer 0 copyings.ps copyings.r copying.Post
+copying-one κs a x y s t p q = p ∙ sym q

@@ -12,7 +12,7 @@ use Rattle.core.specs.declared.After.{After}
 use Rattle.core.specs.declared.Core.{Core}
 use Rattle.core.specs.declared.Stepped.{Stepped}
 use Rattle.event.specs.declared.Event.{Event}
-use Rattle.logic.specs.Changing.{changeFrom, failureFrom, placeFrom}
+use Rattle.logic.specs.Changing.{changeFrom, placeFrom}
 
 abbrev pub partsOf : Stepped → After
 partsOf s = record { vms = s .core .vms; clock = s .core .clock; running = s .core .running; queue = s .core .queue; answer = s .answer }
@@ -23,7 +23,7 @@ kept c n = record { vms = c .vms; clock = c .clock; running = c .running; queue 
 
 -- what an event makes of the VM at place v
 abbrev pub changeAt : Core → Event → ℕ → Change
-changeAt c e v = changeFrom e v (vmAt c v) (c .running) (c .queue) (full c) 0 (entryAt (c .config) v) (handlerAt (c .config) v) (failureFrom e (c .running) (c .config .regions))
+changeAt c e v = changeFrom e v (vmAt c v) (c .running) (c .queue) (full c) 0 (entryAt (c .config) v) (handlerAt (c .config) v)
 
 -- an event that is about one VM: refused, or that VM changed
 unfoldable pub changeIn : Core → Event → Stepped

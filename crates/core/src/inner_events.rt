@@ -7,10 +7,11 @@ use change::Answer;
 use change::Change;
 use checks::rows;
 use config::Config;
-use copies::Failure;
 use event::Event;
 use guest::Vm;
 use queue::Queue;
+use window::Pieces;
+use window::Window;
 ghost use lib.Dec.{eqb};
 ghost use mathlib.Core.Path.{_≡_};
 ghost use Rattle.basis.specs.Choice.{pick};
@@ -28,6 +29,7 @@ impl Core {
         match e {
             Event::Start => self.start_after(),
             Event::Tick(at) => self.tick_after(at),
+            Event::Copy(p, w) => self.copy_after(p, w),
             _ => self.change_after(e),
         }
     }
@@ -66,6 +68,17 @@ impl Core {
         let n = rows::of_tick(self.clock.started);
         if n == 0 {
             self.tick_done(at)
+        } else {
+            self.kept(n)
+        }
+    }
+
+    fn copy_after(self, p: Pieces, w: Window) -> After
+        ensures { λ r. ⌜ r ≡ partsOf (innerOf self (Event.Copy p w)) ⌝ }
+    {
+        let n = rows::of_running(self.clock.started, self.running);
+        if n == 0 {
+            self.copy_done(p, w)
         } else {
             self.kept(n)
         }
@@ -126,7 +139,32 @@ impl Core {
         }
     }
 
-    // D14 to D36: the events that are about one VM, read and stored at its number modulo 8, with no branch over the records.
+    // D31 to D36, but for the bytes: they are not part of the state (D37).
+    fn copy_done(self, p: Pieces, w: Window) -> After
+        ensures { λ r. ⌜ r ≡ partsOf (done self (Event.Copy p w)) ⌝ }
+    {
+        let regions = self.config.regions;
+        let clock = self.clock;
+        let queue = self.queue;
+        let v = self.running;
+        let vms = self.vms;
+        let vm = vms::vm_at(vms, v);
+        let f = copies::failure_of(regions, v, w, p);
+        let d = Change::copying(v, vm.saved(p.next), v, queue, f.code, f.detail);
+        let y = d.vm;
+        let rest = d.queue;
+        let after = vms::with_vm(vms, v, y);
+        let runs = vms::vm_at(after, d.running);
+        After {
+            vms: after,
+            clock: clock,
+            running: d.running,
+            queue: rest,
+            answer: d.answer(0, d.running, runs.address),
+        }
+    }
+
+    // D14 to D30: the other events that are about one VM, read and stored at its number modulo 8, with no branch over the records.
     fn change_after(self, e: Event) -> After
         ensures { λ r. ⌜ r ≡ partsOf (changeIn self e) ⌝ }
     {
@@ -148,19 +186,7 @@ impl Core {
         let full = room <= queue.len;
         let entry = places::word_at(&entries, place as usize);
         let handler = places::word_at(&handlers, place as usize);
-        let failure = logic::failure_of(e, running, config.regions);
-        let d = change_unless(
-            n,
-            e,
-            place,
-            vm,
-            running,
-            queue,
-            full,
-            entry,
-            handler,
-            failure,
-        );
+        let d = change_unless(n, e, place, vm, running, queue, full, entry, handler);
         let y = d.vm;
         w[i] = y.or_kept(place < 8, old);
         let runs = w[(d.running % 8) as usize];
@@ -186,23 +212,11 @@ fn change_unless(
     full: bool,
     entry: u32,
     handler: u32,
-    failure: Failure,
 ) -> Change
-    ensures { λ r. ⌜ r ≡ pick (eqb n 0) (changeFrom e place vm running queue full 0 entry handler failure) (renewedFrom running queue place vm nobody) ⌝ }
+    ensures { λ r. ⌜ r ≡ pick (eqb n 0) (changeFrom e place vm running queue full 0 entry handler) (renewedFrom running queue place vm nobody) ⌝ }
 {
     if n == 0 {
-        return logic::change_of(
-            e,
-            place,
-            vm,
-            running,
-            queue,
-            full,
-            0,
-            entry,
-            handler,
-            failure,
-        );
+        return logic::change_of(e, place, vm, running, queue, full, 0, entry, handler);
     }
     Change::renewed(place, vm, running, queue, Answer::NOTHING)
 }

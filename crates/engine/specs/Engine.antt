@@ -1,11 +1,11 @@
 -- The state that a bank and the rest stand for, and an event on it.
 use Prim.Native.Nat.{ℕ}
 use lib.ListN.{getD, set}
-use mathlib.Core.Bool.{Bool}
+use mathlib.Core.Bool.{Bool, not}
 use mathlib.Core.List.{List}
 use mathlib.Core.Path.{_≡_}
 use Rattle.bank.specs.Bank.{vmsOf}
-use Rattle.basis.specs.Choice.{either}
+use Rattle.basis.specs.Choice.{both, either}
 use Rattle.change.specs.Answers.{quietly}
 use Rattle.change.specs.Changes.{answerBy}
 use Rattle.change.specs.declared.Change.{Change}
@@ -16,15 +16,15 @@ use Rattle.core.specs.declared.Stepped.{Stepped}
 use Rattle.engine.specs.declared.Counts.{Counts}
 use Rattle.engine.specs.declared.Moved.{Moved}
 use Rattle.engine.specs.declared.Stand.{Stand}
-use Rattle.event.specs.Kinds.{ofMaster, ofRunning}
+use Rattle.event.specs.Kinds.{isCopy, ofMaster, ofRunning}
 use Rattle.event.specs.declared.Event.{Event}
 use Rattle.guest.specs.Record.{fresh}
 use Rattle.regions.specs.declared.Regions.{Regions}
 use Rattle.table.specs.declared.Clock.{Clock}
 
--- every event but Start and Tick
+-- every event but Start, Tick and Copy
 abbrev pub aboutVm : Event → Bool
-aboutVm e = either (ofMaster e) (ofRunning e)
+aboutVm e = both (not (isCopy e)) (either (ofMaster e) (ofRunning e))
 
 abbrev pub countsOf : Config → Counts
 countsOf g = record { count = g .count; room = g .room; slots = g .slots }

@@ -8,6 +8,8 @@ use event::Event;
 use queue::Queue;
 use regions::Regions;
 use table::Clock;
+use window::Pieces;
+use window::Window;
 ghost use Prim.Native.Nat.{ℕ};
 ghost use lib.ListN.{length};
 ghost use mathlib.Core.Bool.{true};
@@ -91,7 +93,8 @@ pub fn step(
     match e {
         Event::Tick(at) => tick(standings, words, owners, durations, handlers, g, p, at),
         Event::Start => start(standings, words, entries, g, p),
-        _ => change(standings, words, entries, handlers, regions, g, p, i, e),
+        Event::Copy(asked, w) => copy(standings, words, regions, p, asked, w),
+        _ => change(standings, words, entries, handlers, g, p, i, e),
     }
 }
 
@@ -165,28 +168,46 @@ fn start(standings: &mut [u8], words: &mut [u32], entries: &[u32], g: Counts, p:
     }
 }
 
-// D14 to D36: the event changes the VM that it is about.
+// D14 to D30: the event changes the VM that it is about.
 fn change(
     standings: &mut [u8],
     words: &mut [u32],
     entries: &[u32],
     handlers: &[u32],
-    regions: &Regions,
     g: Counts,
     p: Stand,
     i: u8,
     e: Event,
 ) -> Moved
     requires { ⌜ (length (now standings) ≡ 8) × (length (now words) ≡ 104) × (aboutVm e ≡ true) × (i ≡ placeFrom e (p .running)) ⌝ }
-    ensures { λ r. ⌜ ((owners durations : List ℕ) → Does (configOf g owners durations (now (entries .entry)) (now (handlers .entry)) (now (regions .entry))) (now (standings .entry)) (now (words .entry)) (now (standings .exit)) (now (words .exit)) p e r) ⌝ }
+    ensures { λ r. ⌜ ((owners durations : List ℕ) (regions : Regions) → Does (configOf g owners durations (now (entries .entry)) (now (handlers .entry)) regions) (now (standings .entry)) (now (words .entry)) (now (standings .exit)) (now (words .exit)) p e r) ⌝ }
 {
     let q = p.queue;
     let vm = bank::vm_at(standings, words, i);
     let entry = places::word_at(entries, i as usize);
     let handler = places::word_at(handlers, i as usize);
-    let failure = logic::failure_of(e, p.running, *regions);
-    let full = g.room <= q.len;
-    let d = logic::change_of(e, i, vm, p.running, q, full, 0, entry, handler, failure);
+    let d = logic::change_of(e, i, vm, p.running, q, g.room <= q.len, 0, entry, handler);
+    let clock = p.clock;
+    settled(standings, words, clock, i, d)
+}
+
+// D31 to D36, but for the bytes (D37).
+fn copy(
+    standings: &mut [u8],
+    words: &mut [u32],
+    regions: &Regions,
+    p: Stand,
+    asked: Pieces,
+    w: Window,
+) -> Moved
+    requires { ⌜ (length (now standings) ≡ 8) × (length (now words) ≡ 104) ⌝ }
+    ensures { λ r. ⌜ ((g : Counts) (owners durations entries handlers : List ℕ) → Does (configOf g owners durations entries handlers (now (regions .entry))) (now (standings .entry)) (now (words .entry)) (now (standings .exit)) (now (words .exit)) p (Event.Copy asked w) r) ⌝ }
+{
+    let q = p.queue;
+    let i = p.running;
+    let vm = bank::vm_at(standings, words, i);
+    let f = copies::failure_of(*regions, i, w, asked);
+    let d = Change::copying(i, vm.saved(asked.next), i, q, f.code, f.detail);
     let clock = p.clock;
     settled(standings, words, clock, i, d)
 }

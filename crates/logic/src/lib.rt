@@ -3,13 +3,11 @@
 use change::Answer;
 use change::Change;
 use checks::rows;
-use copies::Failure;
 use event::Event;
 use guest::Vm;
 use queue::Queue;
-use regions::Regions;
 ghost use mathlib.Core.Path.{_≡_};
-ghost use Rattle.logic.specs.Changing.{changeFrom, failureFrom, placeFrom};
+ghost use Rattle.logic.specs.Changing.{changeFrom, placeFrom};
 ghost use Rattle.logic.specs.Rows.{rowFrom};
 
 // The VM that an event is about (E11): the one that the master names, or the one that runs; NOBODY for Start and Tick.
@@ -56,18 +54,8 @@ pub fn row_of(
     }
 }
 
-// What fails in an event of the VM that runs: of a Copy that of its extents (D33, D34), of every other event nothing.
-pub fn failure_of(e: Event, running: u8, regions: Regions) -> Failure
-    ensures { λ r. ⌜ r ≡ failureFrom e running regions ⌝ }
-{
-    match e {
-        Event::Copy(p, w) => copies::failure_of(regions, running, w, p),
-        _ => Failure::told(0, 0),
-    }
-}
-
 // What an event that is not refused makes of the VM at its place. A Tick's place is the VM that it runs, and its queue what the
-// tick left of it. But for a Tick and some Calls nothing is delivered (D13), so by a Write nothing (D22).
+// tick left of it. But for a Tick and some Calls nothing is delivered (D13), so by a Write nothing (D22). Start and Copy are not made here.
 pub fn change_of(
     e: Event,
     place: u8,
@@ -78,9 +66,8 @@ pub fn change_of(
     left: u32,
     entry: u32,
     handler: u32,
-    failure: Failure,
 ) -> Change
-    ensures { λ r. ⌜ r ≡ changeFrom e place vm running queue full left entry handler failure ⌝ }
+    ensures { λ r. ⌜ r ≡ changeFrom e place vm running queue full left entry handler ⌝ }
 {
     match e {
         Event::Start => Change::renewed(place, vm, running, queue, Answer::NOTHING),
@@ -112,16 +99,6 @@ pub fn change_of(
             Answer::NOTHING,
         ),
         Event::Fault(code, detail) => Change::failing(place, vm, running, queue, code, detail),
-        Event::Copy(p, _) => {
-            let saved = vm.saved(p.next);
-            Change::copying(
-                place,
-                saved,
-                running,
-                queue,
-                failure.code,
-                failure.detail,
-            )
-        }
+        Event::Copy(_, _) => Change::renewed(place, vm, running, queue, Answer::NOTHING),
     }
 }

@@ -13,6 +13,8 @@ use Rattle.vms.proofs.turned.Kinds as turned-kinds
 use Rattle.vms.proofs.turned.Reads as turned-reads
 use Rattle.vms.proofs.vm_at.Kinds as vm-at-kinds
 use Rattle.vms.proofs.vm_at.Reads as vm-at-reads
+use Rattle.vms.proofs.with_vm.Kinds as with-vm-kinds
+use Rattle.vms.proofs.with_vm.Reads as with-vm-reads
 use Rattle.vms.proofs.runner.Kinds as runner-kinds
 use Rattle.vms.proofs.runner.Reads as runner-reads
 use Rattle.vms.proofs.if_vm.Kinds as if-vm-kinds
@@ -22,6 +24,9 @@ use Rattle.vms.proofs.at_most_8.Reads as at-most-8-reads
 
 pub vms-vm-at-one : OneAnswer 0 vm-at-kinds.ps vm-at-kinds.r vm-at-reads.Post
 vms-vm-at-one κs a x y s t p q = p ∙ sym q
+
+pub vms-with-vm-one : OneAnswer 0 with-vm-kinds.ps with-vm-kinds.r with-vm-reads.Post
+vms-with-vm-one κs a x y s t p q = p ∙ sym q
 
 pub vms-standings-one : OneAnswer 0 standings-kinds.ps standings-kinds.r standings-reads.Post
 vms-standings-one κs a x y s t p q = p ∙ sym q

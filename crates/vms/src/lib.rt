@@ -4,7 +4,7 @@ use guest::Found;
 use guest::Vm;
 ghost use Prim.Native.Nat.{min};
 ghost use lib.Dec.{ltb};
-ghost use lib.ListN.{getD};
+ghost use lib.ListN.{getD, set};
 ghost use mathlib.Core.Path.{_≡_};
 ghost use Rattle.basis.specs.Choice.{either, pick};
 ghost use Rattle.basis.specs.Nobody.{nobody};
@@ -27,6 +27,19 @@ pub fn vm_at(vms: [Vm; 8], i: u8) -> Vm
 {
     let k = i as usize;
     if k < 8 { vms[k] } else { Vm::fresh() }
+}
+
+// Record i replaced (K2); past the last there is none.
+pub fn with_vm(vms: [Vm; 8], i: u8, vm: Vm) -> [Vm; 8]
+    ensures { λ r. ⌜ r ≡ set vms i vm ⌝ }
+{
+    let k = i as usize;
+    if k < 8 {
+        let mut w = vms;
+        w[k] = vm;
+        return w;
+    }
+    vms
 }
 
 // The standings, as numbers.

@@ -13,7 +13,7 @@ use crate::core::region::{Region, WAY_EXECUTE, WAY_READ};
 pub const END_OF_SPACE: u64 = 1 << 32;
 
 /// Bytes without a gap. Two stretches of the same VM and way neither overlap nor adjoin.
-type Stretch = Range<u64>;
+pub type Stretch = Range<u64>;
 
 /// The number of ways.
 const WAYS: usize = 3;
@@ -40,6 +40,12 @@ impl Grants {
             }
         }
         Grants { legal, vm_count: config.vm_count, regions: regions.len(), stretches, flaw }
+    }
+
+    /// The bytes that a VM may use in a way, as stretches from the lowest on; none for what there is not.
+    pub fn stretches(&self, vm: u8, way: u8) -> &[Stretch] {
+        let ways = self.stretches.get(usize::from(vm));
+        ways.and_then(|ways| ways.get(usize::from(way).wrapping_sub(1))).map_or(&[], Vec::as_slice)
     }
 
     /// The answer to a query, yes or no; what comes first is in the order of H10.
@@ -91,7 +97,7 @@ impl Grants {
         };
         let past = range.end > END_OF_SPACE;
         match self.flaw {
-            Flaw::RangeWraps if past => {
+            Flaw::RangeWraps | Flaw::SumsWrap if past => {
                 granted(range.start, END_OF_SPACE) && granted(0, range.end - END_OF_SPACE)
             }
             Flaw::RangeIsCutOff if past => granted(range.start, END_OF_SPACE),

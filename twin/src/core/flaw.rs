@@ -187,6 +187,98 @@ pub enum Flaw {
     TextCountsBehindVms,
     /// N9: the counts are hexadecimal.
     TextCountsInHex,
+    /// D34: the destination is checked before the source.
+    CopyDestinationFirst,
+    /// D34: the source is checked before the length.
+    CopySourceBeforeLength,
+    /// D34: all lengths are checked before any address.
+    CopyLengthsFirst,
+    /// D34: all sources are checked before any destination.
+    CopySourcesFirst,
+    /// D34, M8: the source has to be written and the destination to be read.
+    CopyWaysSwapped,
+    /// D34, M8: the source has to be written too.
+    CopyWritesSource,
+    /// D34, M8: the destination has only to be read.
+    CopyReadsDestination,
+    /// D34: the regions are not asked.
+    CopyAccessIgnored,
+    /// D34: VM 0 is asked for, whoever runs.
+    CopyAsksVmZero,
+    /// D34, M8: the extents past the count are checked.
+    CopyLooksPastCount,
+    /// D34: only the first extent is checked.
+    CopyChecksFirstOnly,
+    /// D34: the last of several extents is not checked.
+    CopyLastUnchecked,
+    /// S10, D34: an extent of 256 bytes is too long.
+    CopyLength255IsMost,
+    /// S10, D34: an extent of 257 bytes is not too long.
+    CopyLength257Taken,
+    /// S10, D33: a count of 8 is too high.
+    CopyCountSevenIsMost,
+    /// S10, D33: a count of 9 is not too high.
+    CopyCountNineTaken,
+    /// D34: the addresses of an extent without bytes are checked.
+    CopyLengthZeroIsChecked,
+    /// A5, D34: an extent that is too long has code 3.
+    CopyLengthIsCode3,
+    /// A5, D34: the data of code 7 is the source.
+    CopyLengthTellsSource,
+    /// A5, D34: the data is the source where the destination fails.
+    CopyDestinationTellsSource,
+    /// D32, D34: the window is not asked.
+    WindowIgnored,
+    /// D32, D34: the source may lie outside the window.
+    WindowOfSourceIgnored,
+    /// D32, D34: the destination may lie outside the window.
+    WindowOfDestinationIgnored,
+    /// D32: a range may begin below the window.
+    WindowBaseIgnored,
+    /// D32: only the first byte has to lie in the window.
+    WindowByFirstByte,
+    /// D32: the window has one byte more at its front.
+    WindowBeginsEarly,
+    /// D32: the first byte of the window is not in it.
+    WindowBeginsLate,
+    /// D32: the window has one byte more at its end.
+    WindowEndsLate,
+    /// D32: the last byte of the window is not in it.
+    WindowEndsEarly,
+    /// D32, M8: address and length are added modulo 2^32 for the window.
+    WindowWraps,
+    /// H10, D32, M8: address and length are added modulo 2^32 for the window and the regions.
+    SumsWrap,
+    /// D31: a Copy that ends its VM stores no next address.
+    EndingCopyKeepsAddress,
+    /// D31, D36: a Copy that is done stores no next address.
+    DoneCopyKeepsAddress,
+    /// D13, D36: a Copy delivers.
+    CopyDelivers,
+    /// D14, D34: the entries of a VM that a Copy ends stay in the queue.
+    CopyKeepsEntries,
+    /// A8: a Copy that ends its VM tells of no entries.
+    CopyTellsNone,
+    /// T10, D34, M7: a Copy that ends its VM leaves the count.
+    CopyKeepsCount,
+    /// D15, D34: a VM that a Copy ends still runs.
+    CopyKeepsRunning,
+    /// D23, D34: a VM that a Copy ends is stopped, not in error.
+    CopyStopsItsVm,
+    /// A6: a Copy that ends its VM has result 1.
+    CopyAnswersOne,
+    /// R1: a Copy before Start is not refused.
+    CopyBeforeStartTaken,
+    /// R1: a Copy while no VM runs is not refused.
+    CopyByNobodyTaken,
+    /// D30: a Call for service 5 is no error.
+    ServiceFiveIsDone,
+    /// E13, L4: kind 0x19 is read as a Copy.
+    KindNineteenIsCopy,
+    /// E13: the record of a Copy ends behind the extents in use.
+    CopyRecordByCount,
+    /// E13: the destination stands before the source.
+    CopyDestinationReadFirst,
     /// N14: a log runs on the core that the one before it left.
     CarriesState,
     /// N14, N15: the ticks of the logs before it count for a log's place in the table.
@@ -289,6 +381,50 @@ pub enum Flaw {
     LongAfterAnswers,
     /// N5, N25: a refused image answers every query with no.
     RefusedImageAnswersNo,
+    /// D35, M8: an extent is copied before the next one is checked.
+    CopiesBeforeAllChecked,
+    /// D36, M8: an extent that overlaps itself is copied byte by byte from the front.
+    CopiesForwards,
+    /// D36: an extent that overlaps itself is copied byte by byte from the end.
+    CopiesBackwards,
+    /// D36: each extent takes the bytes as they stood before the whole Copy.
+    CopiesFromBeforeAll,
+    /// D36: the last extent is copied first.
+    CopiesLastExtentFirst,
+    /// E13, D36: the bytes go from the destination to the source.
+    CopiesOtherWay,
+    /// D34, D36: the extents past the count are copied too.
+    CopiesPastCount,
+    /// D36: the last byte of an extent is not copied.
+    CopiesOneByteLess,
+    /// D36: the source does not stay.
+    CopiesAndClears,
+    /// N26: the window is zero at first.
+    MemoryFileIgnored,
+    /// N26: a memory.bin over 16,384 bytes is as one without a byte.
+    LongMemoryIgnored,
+    /// N27: rows of zeros have a line.
+    WindowKeepsZeroRows,
+    /// N27: the line of a row has its offset in the window, not its address.
+    WindowRowByOffset,
+    /// N27: the bytes have large letters.
+    WindowDigitsLarge,
+    /// N27: a row has 16 bytes.
+    WindowRowsOf16,
+    /// N27: the last row has no line.
+    WindowLastRowMissing,
+    /// N27: the window stands before the lines of the run.
+    WindowBeforeLines,
+    /// N28: the window stands before the `cut` line.
+    WindowBeforeCut,
+    /// N28: no window is printed behind a `cut` line.
+    CutHidesWindow,
+    /// N28: behind a `cut` line the window is printed as it was at first.
+    CutShowsFirstWindow,
+    /// N28: the window is printed behind `long`.
+    LongShowsWindow,
+    /// N28: the window is printed behind the line of a refused image.
+    RefusedImageShowsWindow,
 }
 
 /// Wrong twins, each with what it does wrong.

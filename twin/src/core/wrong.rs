@@ -1,10 +1,11 @@
-//! The lists of the wrong twins, each with what it does wrong: those of runs, of reports, of access queries.
+//! The lists of the wrong twins, each with what it does wrong: those of runs, of reports, of access queries, of
+//! the window.
 
 use crate::core::flaw::Flaw;
 
 impl Flaw {
     /// Every wrong twin of a run.
-    pub const WRONG_RUNS: [(Flaw, &'static str); 91] = [
+    pub const WRONG_RUNS: [(Flaw, &'static str); 137] = [
         (Flaw::GuestClock, "raises the guest's own copy of ticksWhileRunning"),
         (Flaw::SpareChargedToSlice, "charges a spare tick to the VM's next slice"),
         (Flaw::StopMovesTable, "moves the table on when the running VM is stopped"),
@@ -96,6 +97,52 @@ impl Flaw {
         (Flaw::TextCountsBeforeQueue, "prints the counts before the queue"),
         (Flaw::TextCountsBehindVms, "prints the counts behind the VM records"),
         (Flaw::TextCountsInHex, "prints the counts in hexadecimal"),
+        (Flaw::CopyDestinationFirst, "checks the destination of an extent before its source"),
+        (Flaw::CopySourceBeforeLength, "checks the source of an extent before its length"),
+        (Flaw::CopyLengthsFirst, "checks the lengths of all extents before any address"),
+        (Flaw::CopySourcesFirst, "checks all sources before any destination"),
+        (Flaw::CopyWaysSwapped, "asks whether the source may be written and the destination read"),
+        (Flaw::CopyWritesSource, "asks whether the source may be written"),
+        (Flaw::CopyReadsDestination, "asks whether the destination may be read"),
+        (Flaw::CopyAccessIgnored, "asks the window only, not the regions"),
+        (Flaw::CopyAsksVmZero, "asks what VM 0 may do, whoever runs"),
+        (Flaw::CopyLooksPastCount, "looks at the extents past the count"),
+        (Flaw::CopyChecksFirstOnly, "checks the first extent only"),
+        (Flaw::CopyLastUnchecked, "does not check the last of several extents"),
+        (Flaw::CopyLength255IsMost, "takes 255 bytes at most"),
+        (Flaw::CopyLength257Taken, "takes an extent of 257 bytes"),
+        (Flaw::CopyCountSevenIsMost, "takes seven extents at most"),
+        (Flaw::CopyCountNineTaken, "takes a count of nine"),
+        (Flaw::CopyLengthZeroIsChecked, "looks at the addresses of an extent without bytes"),
+        (Flaw::CopyLengthIsCode3, "answers code 3 for an extent that is too long"),
+        (Flaw::CopyLengthTellsSource, "tells the source of an extent that is too long"),
+        (Flaw::CopyDestinationTellsSource, "tells the source where the destination fails"),
+        (Flaw::WindowIgnored, "asks the regions only, not the window"),
+        (Flaw::WindowOfSourceIgnored, "does not ask the window for the source"),
+        (Flaw::WindowOfDestinationIgnored, "does not ask the window for the destination"),
+        (Flaw::WindowBaseIgnored, "asks only where a range ends in the window"),
+        (Flaw::WindowByFirstByte, "asks the window for the first byte only"),
+        (Flaw::WindowBeginsEarly, "begins the window one byte early"),
+        (Flaw::WindowBeginsLate, "begins the window one byte late"),
+        (Flaw::WindowEndsLate, "ends the window one byte late"),
+        (Flaw::WindowEndsEarly, "ends the window one byte early"),
+        (Flaw::WindowWraps, "lets the sum for the window wrap"),
+        (Flaw::SumsWrap, "lets the sums for the window and the regions wrap"),
+        (Flaw::EndingCopyKeepsAddress, "stores no next address at a copy that ends its VM"),
+        (Flaw::DoneCopyKeepsAddress, "stores the next address only at a copy that ends its VM"),
+        (Flaw::CopyDelivers, "delivers at a copy"),
+        (Flaw::CopyKeepsEntries, "leaves the entries of a VM that a copy ends in the queue"),
+        (Flaw::CopyTellsNone, "answers 0 removed at a copy that ends its VM"),
+        (Flaw::CopyKeepsCount, "leaves the count at a copy that ends its VM"),
+        (Flaw::CopyKeepsRunning, "leaves the core to a VM that a copy ends"),
+        (Flaw::CopyStopsItsVm, "stops a VM that a copy ends in place of error"),
+        (Flaw::CopyAnswersOne, "answers result 1 at a copy that ends its VM"),
+        (Flaw::CopyBeforeStartTaken, "takes a copy before Start"),
+        (Flaw::CopyByNobodyTaken, "takes a copy while no VM runs"),
+        (Flaw::ServiceFiveIsDone, "takes service 5 for a copy without extents"),
+        (Flaw::KindNineteenIsCopy, "reads kind 0x19 as a copy"),
+        (Flaw::CopyRecordByCount, "reads only as many extents as the count says"),
+        (Flaw::CopyDestinationReadFirst, "reads the destination of an extent before its source"),
     ];
 
     /// Every wrong twin of a report.
@@ -155,5 +202,31 @@ impl Flaw {
         (Flaw::LongIsAnswered, "answers more than 60,000 bytes of queries"),
         (Flaw::LongAfterAnswers, "says long behind the answers"),
         (Flaw::RefusedImageAnswersNo, "answers no to every query of a refused image"),
+    ];
+
+    /// Every wrong twin of the window: its states and answers are right, its bytes or their text are not.
+    pub const WRONG_MEMORIES: [(Flaw, &'static str); 22] = [
+        (Flaw::CopiesBeforeAllChecked, "copies each extent before the next is checked"),
+        (Flaw::CopiesForwards, "copies byte by byte from the front"),
+        (Flaw::CopiesBackwards, "copies byte by byte from the end"),
+        (Flaw::CopiesFromBeforeAll, "takes all bytes as they stood before the whole copy"),
+        (Flaw::CopiesLastExtentFirst, "copies the last extent first"),
+        (Flaw::CopiesOtherWay, "copies from the destination to the source"),
+        (Flaw::CopiesPastCount, "copies the extents past the count"),
+        (Flaw::CopiesOneByteLess, "leaves out the last byte of an extent"),
+        (Flaw::CopiesAndClears, "clears the source"),
+        (Flaw::MemoryFileIgnored, "does not read memory.bin"),
+        (Flaw::LongMemoryIgnored, "takes no byte of a memory.bin that is too long"),
+        (Flaw::WindowKeepsZeroRows, "prints rows of zeros"),
+        (Flaw::WindowRowByOffset, "prints the offset of a row"),
+        (Flaw::WindowDigitsLarge, "prints large letters"),
+        (Flaw::WindowRowsOf16, "prints rows of 16 bytes"),
+        (Flaw::WindowLastRowMissing, "leaves out the last row"),
+        (Flaw::WindowBeforeLines, "prints the window before the run"),
+        (Flaw::WindowBeforeCut, "prints the window before the cut line"),
+        (Flaw::CutHidesWindow, "prints no window behind a cut line"),
+        (Flaw::CutShowsFirstWindow, "prints the window as it was at first behind a cut line"),
+        (Flaw::LongShowsWindow, "prints the window behind long"),
+        (Flaw::RefusedImageShowsWindow, "prints the window behind the line of a refused image"),
     ];
 }

@@ -4,20 +4,21 @@ use crate::core::event::{Answer, Event};
 use crate::core::flaw::Flaw;
 use crate::core::limits::MAX_LOG_BYTES;
 use crate::core::Core;
+use crate::coverage::copies::CopyCoverage;
 use crate::coverage::counts::CountCoverage;
 use crate::coverage::marks::{event_marks, image_marks, log_marks, Mark};
 use crate::coverage::regions::RegionCoverage;
 use crate::generate::image::FAULTS;
 use crate::image::read::read_image;
-use crate::log::read::{read_record, Record};
+use crate::log::read::{event_body_length, read_record, Record};
 use crate::run::frames::Case;
 
 /// The event kinds by name, in the order of their record kinds.
-pub const KIND_NAMES: [&str; 9] =
-    ["start", "tick", "stop", "shutdown", "restart", "extra", "call", "write", "fault"];
+pub const KIND_NAMES: [&str; 10] =
+    ["start", "tick", "stop", "shutdown", "restart", "extra", "call", "write", "fault", "copy"];
 
 /// R1: every refusal that each event kind can get on a run from fresh.
-const REFUSALS_BY_KIND: [&[u8]; 9] = [
+const REFUSALS_BY_KIND: [&[u8]; 10] = [
     &[0, 7],
     &[0, 2],
     &[0, 2, 3, 4],
@@ -27,14 +28,15 @@ const REFUSALS_BY_KIND: [&[u8]; 9] = [
     &[0, 2, 5],
     &[0, 2, 5, 8],
     &[0, 2, 5, 9],
+    &[0, 2, 5],
 ];
 
 /// D13: where a number can be delivered, at a tick or at the services 0, 1 and 2.
 const DELIVERY_NAMES: [&str; 4] = ["tick", "sync", "return", "inject"];
 
 /// A8: the events that remove all entries of their VM from the queue.
-const REMOVAL_NAMES: [&str; 6] =
-    ["Stop", "Restart", "Fault", "service 3", "service 2 over 31", "unknown service"];
+const REMOVAL_NAMES: [&str; 7] =
+    ["Stop", "Restart", "Fault", "service 3", "service 2 over 31", "unknown service", "Copy that fails"];
 
 /// A8: how many they remove; the last goes beside the others.
 const REMOVED_NAMES: [&str; 4] = ["no entry", "1 entry", "2 entries or more", "entries, others stay"];
@@ -43,7 +45,7 @@ const REMOVED_NAMES: [&str; 4] = ["no entry", "1 entry", "2 entries or more", "e
 pub struct Coverage {
     pub events: u64,
     /// R1
-    refusals: [[u64; 10]; 9],
+    refusals: [[u64; 10]; KIND_NAMES.len()],
     /// I8
     image_faults: [u64; FAULTS.len()],
     /// H1 to H7, I15
@@ -58,7 +60,7 @@ pub struct Coverage {
     /// A4
     notices: [u64; 4],
     /// A5
-    error_codes: [u64; 6],
+    error_codes: [u64; 8],
     /// A6
     results: [u64; 2],
     /// D11 to D13
@@ -67,6 +69,8 @@ pub struct Coverage {
     removed: [[u64; REMOVED_NAMES.len()]; REMOVAL_NAMES.len()],
     /// T10
     counts: CountCoverage,
+    /// D31 to D37, S10
+    copies: CopyCoverage,
     /// D21, F1 to F10
     fields_written: [u64; 10],
     marks: [u64; Mark::COUNT],
@@ -76,7 +80,7 @@ impl Default for Coverage {
     fn default() -> Coverage {
         Coverage {
             events: 0,
-            refusals: [[0; 10]; 9],
+            refusals: [[0; 10]; KIND_NAMES.len()],
             image_faults: [0; FAULTS.len()],
             regions: RegionCoverage::default(),
             images_accepted: 0,
@@ -84,11 +88,12 @@ impl Default for Coverage {
             longs: 0,
             services: [0; 6],
             notices: [0; 4],
-            error_codes: [0; 6],
+            error_codes: [0; 8],
             results: [0; 2],
             delivered: [[0; 32]; DELIVERY_NAMES.len()],
             removed: [[0; REMOVED_NAMES.len()]; REMOVAL_NAMES.len()],
             counts: CountCoverage::default(),
+            copies: CopyCoverage::default(),
             fields_written: [0; 10],
             marks: [0; Mark::COUNT],
         }
@@ -127,14 +132,16 @@ impl Coverage {
             self.observe_event(event, &answer);
             self.observe_removal(event, &answer, core.state.queue.count);
             self.counts.observe(&before, event, &answer, &core);
+            self.copies.observe(&before, event, &answer);
             event_marks(&before, event, &answer, &core, &mut |mark| self.marks[mark as usize] += 1);
             at = next;
         }
         if at < log.len() {
             self.cuts += 1;
-            let known = crate::log::read::event_body_length(log[at]).is_some();
+            let known = event_body_length(log[at]).is_some();
             let mark = if known { Mark::CutInBody } else { Mark::CutAtKind };
             self.marks[mark as usize] += 1;
+            self.copies.observe_cut(&log[at..]);
         }
     }
 
@@ -161,7 +168,7 @@ impl Coverage {
 
     /// How many entries an event removed, and whether there are others that stay.
     fn observe_removal(&mut self, event: Event, answer: &Answer, staying: u8) {
-        let (Some(kind), 0) = (removal_index(event), answer.refusal) else {
+        let (Some(kind), 0) = (removal_index(event, answer), answer.refusal) else {
             return;
         };
         self.removed[kind][usize::from(answer.removed.min(2))] += 1;
@@ -191,6 +198,7 @@ impl Coverage {
             points.push((String::from(mark.name()), self.marks[mark as usize]));
         }
         points.extend(self.counts.points());
+        points.extend(self.copies.points());
         points.extend(self.regions.points());
         points
     }
@@ -236,8 +244,8 @@ fn moment_index(event: Event) -> usize {
     }
 }
 
-/// The place of an event among the names of those that remove entries.
-fn removal_index(event: Event) -> Option<usize> {
+/// The place of an event among the names of those that remove entries; a Copy does so where it fails.
+fn removal_index(event: Event, answer: &Answer) -> Option<usize> {
     match event {
         Event::Stop { .. } => Some(0),
         Event::Restart { .. } => Some(1),
@@ -245,6 +253,7 @@ fn removal_index(event: Event) -> Option<usize> {
         Event::Call { service: 3, .. } => Some(3),
         Event::Call { service: 2, argument: 32.., .. } => Some(4),
         Event::Call { service: 5.., .. } => Some(5),
+        Event::Copy(_) if answer.notice.number == 3 => Some(6),
         _ => None,
     }
 }
@@ -260,5 +269,6 @@ fn kind_index(event: Event) -> usize {
         Event::Call { .. } => 6,
         Event::Write { .. } => 7,
         Event::Fault { .. } => 8,
+        Event::Copy(_) => 9,
     }
 }

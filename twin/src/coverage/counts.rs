@@ -42,6 +42,8 @@ marks! {
     BadInject = "service 2 over 31",
     /// T10, D30
     UnknownService = "unknown service",
+    /// T10, D33, D34
+    FailedCopy = "Copy that fails",
 }
 
 // Moments at which a count could go wrong.
@@ -218,6 +220,7 @@ fn clearing(event: Event, of_running: bool) -> Option<Clearing> {
         Event::Call { service: 3, .. } => Some(Clearing::ServiceThree),
         Event::Call { service: 2, .. } => Some(Clearing::BadInject),
         Event::Call { service: 5.., .. } => Some(Clearing::UnknownService),
+        Event::Copy(_) => Some(Clearing::FailedCopy),
         _ => None,
     }
 }

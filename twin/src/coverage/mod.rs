@@ -2,8 +2,10 @@
 
 pub mod access;
 pub mod cases;
+pub mod copies;
 pub mod counts;
 pub mod marks;
+pub mod memories;
 pub mod query_view;
 pub mod regions;
 pub mod reports;

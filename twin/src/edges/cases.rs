@@ -247,9 +247,9 @@ fn long_logs(random: &mut Random) -> Vec<Case> {
     let lengths = [MAX_LOG_BYTES, MAX_LOG_BYTES + 1, MAX_PART];
     let mut cases: Vec<Case> = lengths
         .into_iter()
-        .map(|length| Case { image: image.clone(), log: LogMaker::new(random, &config).bytes(length) })
+        .map(|length| Case { image: image.clone(), log: LogMaker::ticking(random, &config).bytes(length) })
         .collect();
-    let mut log = LogMaker::new(random, &config).bytes(MAX_LOG_BYTES - 3);
+    let mut log = LogMaker::ticking(random, &config).bytes(MAX_LOG_BYTES - 3);
     log.extend([0x11, 0, 0]);
     cases.push(Case { image: image.clone(), log });
     cases.push(Case { image: image[..image.len() - 1].to_vec(), log: vec![0x10; MAX_LOG_BYTES + 1] });

@@ -125,7 +125,7 @@ fn cut_logs() -> Vec<EdgeReport> {
 fn lengths(random: &mut Random) -> Vec<EdgeReport> {
     let mut edges = Vec::new();
     for length in [MAX_LOG_BYTES - 1, MAX_LOG_BYTES, MAX_LOG_BYTES + 1, 65_536] {
-        let log = LogMaker::new(random, &config()).bytes(length);
+        let log = LogMaker::ticking(random, &config()).bytes(length);
         edges.push(edge(&format!("log of {length} bytes"), between_good_ones(bytes(log))));
     }
     let cut = [ticking(11_999), vec![0x16, 0, 0, 0]].concat();

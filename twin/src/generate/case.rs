@@ -128,13 +128,13 @@ fn with_garbage_log(random: &mut Random) -> Case {
 fn long_run(random: &mut Random) -> Case {
     let config = legal_config(random);
     let length = random.between(10_000, MAX_LOG_BYTES);
-    let log = LogMaker::new(random, &config).bytes(length);
+    let log = LogMaker::ticking(random, &config).bytes(length);
     Case { image: image_bytes(&config, Flaw::None), log }
 }
 
 fn at_the_greatest_length(random: &mut Random) -> Case {
     let config = legal_config(random);
     let length = random.pick(&[MAX_LOG_BYTES - 1, MAX_LOG_BYTES, MAX_LOG_BYTES + 1, MAX_LOG_BYTES + 2]);
-    let log = LogMaker::new(random, &config).bytes(length);
+    let log = LogMaker::ticking(random, &config).bytes(length);
     Case { image: image_bytes(&config, Flaw::None), log }
 }

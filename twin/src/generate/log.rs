@@ -5,6 +5,7 @@ use crate::core::event::Event;
 use crate::core::flaw::Flaw;
 use crate::core::state::{ENABLED, PREVIOUS_ENABLED};
 use crate::core::Core;
+use crate::generate::copies::{any_copy, copy_request, Room};
 use crate::generate::random::Random;
 use crate::generate::values::{address, any_event, argument, mask, write_offset};
 use crate::log::write::write_record;
@@ -20,19 +21,28 @@ pub struct Mood {
     extra: usize,
     odd: usize,
     burst: usize,
+    copy: usize,
 }
 
-const MOODS: [Mood; 5] = [
-    Mood { tick: 50, call: 20, write: 12, fault: 1, master: 5, extra: 5, odd: 3, burst: 4 },
-    Mood { tick: 25, call: 35, write: 30, fault: 0, master: 3, extra: 2, odd: 1, burst: 4 },
-    Mood { tick: 40, call: 10, write: 3, fault: 2, master: 10, extra: 30, odd: 3, burst: 2 },
-    Mood { tick: 35, call: 10, write: 5, fault: 5, master: 35, extra: 8, odd: 5, burst: 2 },
-    Mood { tick: 15, call: 10, write: 10, fault: 3, master: 10, extra: 5, odd: 40, burst: 7 },
+const MOODS: [Mood; 6] = [
+    Mood { tick: 50, call: 20, write: 12, fault: 1, master: 5, extra: 5, odd: 3, burst: 4, copy: 4 },
+    Mood { tick: 25, call: 35, write: 30, fault: 0, master: 3, extra: 2, odd: 1, burst: 4, copy: 3 },
+    Mood { tick: 40, call: 10, write: 3, fault: 2, master: 10, extra: 30, odd: 3, burst: 2, copy: 3 },
+    Mood { tick: 35, call: 10, write: 5, fault: 5, master: 35, extra: 8, odd: 5, burst: 2, copy: 2 },
+    Mood { tick: 15, call: 10, write: 10, fault: 3, master: 10, extra: 5, odd: 40, burst: 7, copy: 5 },
+    Mood { tick: 30, call: 8, write: 8, fault: 1, master: 5, extra: 10, odd: 4, burst: 4, copy: 30 },
 ];
 
 /// Nearly only ticks, for long runs.
 const TICKING: Mood =
-    Mood { tick: 940, call: 20, write: 15, fault: 1, master: 6, extra: 15, odd: 2, burst: 1 };
+    Mood { tick: 940, call: 20, write: 15, fault: 1, master: 6, extra: 15, odd: 2, burst: 1, copy: 2 };
+
+/// Mostly copies, for runs whose memory is looked at.
+const COPYING: Mood =
+    Mood { tick: 18, call: 3, write: 2, fault: 1, master: 2, extra: 3, odd: 3, burst: 2, copy: 66 };
+
+/// So many percent of the copies by a VM that has no room for any are made nevertheless.
+const COPIES_WITHOUT_ROOM: usize = 12;
 
 /// A log under construction and the state after it.
 pub struct LogMaker<'a> {
@@ -48,6 +58,11 @@ impl<'a> LogMaker<'a> {
         LogMaker { random, mood, core: Core::fresh(config.clone(), Flaw::None), log: Vec::new() }
     }
 
+    /// The maker of a log that is mostly copies.
+    pub fn copying(random: &'a mut Random, config: &Config) -> LogMaker<'a> {
+        LogMaker { mood: COPYING, ..LogMaker::new(random, config) }
+    }
+
     /// A log of so many steps; a burst of several events counts as one.
     pub fn events(mut self, count: usize) -> Vec<u8> {
         for _ in 0..count {
@@ -56,9 +71,13 @@ impl<'a> LogMaker<'a> {
         self.log
     }
 
-    /// A log of exactly so many bytes, most of them ticks.
+    /// The maker of a log that is mostly ticks.
+    pub fn ticking(random: &'a mut Random, config: &Config) -> LogMaker<'a> {
+        LogMaker { mood: TICKING, ..LogMaker::new(random, config) }
+    }
+
+    /// A log of exactly so many bytes; the last of them are ticks.
     pub fn bytes(mut self, length: usize) -> Vec<u8> {
-        self.mood = TICKING;
         while self.log.len() + 2_000 < length {
             self.step();
         }
@@ -90,8 +109,17 @@ impl<'a> LogMaker<'a> {
             return self.push(Event::Restart { vm });
         }
         let mood = self.mood;
-        let weights =
-            [mood.tick, mood.call, mood.write, mood.fault, mood.master, mood.extra, mood.odd, mood.burst];
+        let weights = [
+            mood.tick,
+            mood.call,
+            mood.write,
+            mood.fault,
+            mood.master,
+            mood.extra,
+            mood.odd,
+            mood.burst,
+            mood.copy,
+        ];
         let running = self.core.state.running.is_some();
         match self.random.weighted(&weights) {
             1 if running => self.call(),
@@ -104,6 +132,7 @@ impl<'a> LogMaker<'a> {
                 self.push(event);
             }
             7 => self.burst(),
+            8 if running => self.copy(),
             _ => self.tick(),
         }
     }
@@ -150,6 +179,17 @@ impl<'a> LogMaker<'a> {
         self.push(Event::Fault { code, data });
     }
 
+    /// A copy by the VM that runs; without room for any mostly a tick in its place.
+    fn copy(&mut self) {
+        let room = self.core.state.running.map(|vm| Room::of(&self.core.config, vm));
+        let request = match room {
+            Some(room) if room.is_there() => copy_request(self.random, &room),
+            _ if self.random.percent(COPIES_WITHOUT_ROOM) => any_copy(self.random),
+            _ => return self.tick(),
+        };
+        self.push(Event::Copy(request));
+    }
+
     fn vm(&mut self) -> u8 {
         self.random.below(usize::from(self.core.config.vm_count)) as u8
     }
@@ -178,7 +218,7 @@ impl<'a> LogMaker<'a> {
 
     /// A short row of events that belong together.
     fn burst(&mut self) {
-        match self.random.below(9) {
+        match self.random.below(10) {
             0 => self.fill_the_queue(),
             1 => self.raise_and_sync(),
             2 => self.generate_and_return(),
@@ -187,6 +227,7 @@ impl<'a> LogMaker<'a> {
             5 => self.bend_the_clocks(),
             6 => self.inject_among_others(),
             7 => self.fill_with_one_vm(),
+            8 => self.copy_in_a_row(),
             _ => self.restart_the_rest(),
         }
     }
@@ -207,6 +248,15 @@ impl<'a> LogMaker<'a> {
         let size = self.core.config.queue_size;
         for _ in 0..=size.saturating_sub(self.core.state.queue.count) {
             self.push(Event::Extra { vm });
+        }
+    }
+
+    /// Several copies by one VM, as long as none of them ends it.
+    fn copy_in_a_row(&mut self) {
+        for _ in 0..self.random.between(2, 5) {
+            if self.core.state.running.is_some() {
+                self.copy();
+            }
         }
     }
 

@@ -2,8 +2,10 @@
 
 pub mod access;
 pub mod case;
+pub mod copies;
 pub mod image;
 pub mod log;
+pub mod memories;
 pub mod random;
 pub mod regions;
 pub mod report;

@@ -2,7 +2,7 @@
 
 use crate::core::config::Config;
 use crate::core::flaw::Flaw;
-use crate::core::limits::{MAX_REGIONS_OF_A_VM, MAX_VMS};
+use crate::core::limits::{MAX_REGIONS_OF_A_VM, MAX_VMS, WINDOW_BASE, WINDOW_BYTES};
 use crate::core::region::{Region, EXECUTE, READ, READ_WRITE};
 use crate::generate::image::legal_config;
 use crate::generate::random::Random;
@@ -16,12 +16,18 @@ const TRIES: usize = 12;
 /// Lengths of regions in bytes.
 const SIZES: [u32; 8] = [1, 2, 3, 16, 0x100, 0x1000, 0x1000, 0x1_0000];
 
-/// Gives a configuration regions: mostly none or a few, seldom as many as there can be.
+/// Gives a configuration regions: mostly none, a few, or some about the window of a copy, seldom as many as
+/// there can be.
 pub fn add_some_regions(random: &mut Random, config: &mut Config) {
     let all = MAX_REGIONS_OF_A_VM * usize::from(config.vm_count);
     let count = match random.below(20) {
-        0..=10 => 0,
-        11..=16 => random.between(1, 5),
+        0..=6 => 0,
+        7..=9 => random.between(1, 5),
+        10..=16 => {
+            add_room_to_copy(random, config);
+            let more = usize::from(config.region_count) + random.below(4);
+            return add_window_regions(random, config, more);
+        }
         17..=18 => random.between(1, all),
         _ => all,
     };
@@ -30,15 +36,77 @@ pub fn add_some_regions(random: &mut Random, config: &mut Config) {
 
 /// Adds so many legal regions, as far as places for them are found.
 pub fn add_regions(random: &mut Random, config: &mut Config, count: usize) {
+    add_by(random, config, count, some_region);
+}
+
+/// Adds regions in the window and about its ends, until there are so many, as far as places are found.
+pub fn add_window_regions(random: &mut Random, config: &mut Config, count: usize) {
+    add_by(random, config, count, window_region);
+}
+
+fn add_by(
+    random: &mut Random,
+    config: &mut Config,
+    count: usize,
+    make: impl Fn(&mut Random, &Config) -> Region,
+) {
     for _ in 0..count * TRIES {
         if usize::from(config.region_count) >= count {
             return;
         }
-        let region = some_region(random, config);
-        if region_fault(config, &region, Flaw::None).is_none() {
-            config.push_region(region);
+        let region = make(random, config);
+        add_if_legal(config, region);
+    }
+}
+
+fn add_if_legal(config: &mut Config, region: Region) {
+    if region_fault(config, &region, Flaw::None).is_none() {
+        config.push_region(region);
+    }
+}
+
+/// Gives most VMs memory of the window that they may write; what one writes another may read (H6).
+pub fn add_room_to_copy(random: &mut Random, config: &mut Config) {
+    for holder in 0..config.vm_count {
+        if random.percent(75) {
+            let (start, last) = window_range(random);
+            add_if_legal(config, Region { holder, permission: READ_WRITE, start, last });
+        }
+        if let (Some(shared), true) = (config.memory().first().copied(), random.percent(35)) {
+            let permission = random.pick(&[READ, READ, READ_WRITE]);
+            add_if_legal(config, Region { holder, permission, ..shared });
         }
     }
+}
+
+/// A region in the window or about its ends, mostly near another one.
+fn window_region(random: &mut Random, config: &Config) -> Region {
+    let region = some_region(random, config);
+    let permission = random.pick(&[READ, READ, READ_WRITE, READ_WRITE, READ_WRITE, EXECUTE]);
+    let (start, last) = match config.memory() {
+        [.., other] if random.percent(50) => {
+            let more = random.pick(&[1, 16, 0x100]) - 1;
+            near(random, *other, more)
+        }
+        _ => window_range(random),
+    };
+    Region { permission, start, last, ..region }
+}
+
+/// A range in the window, mostly in its first pages; or over one of its ends; or all of it.
+fn window_range(random: &mut Random) -> (u32, u32) {
+    let more = random.pick(&[16, 64, 0x100, 0x200, 0x400, 0x1000]) - 1;
+    let end = WINDOW_BASE + WINDOW_BYTES as u32;
+    let near = random.pick(&[0, 1, 16, 0x80]);
+    let start = match random.below(16) {
+        0 => WINDOW_BASE - near,
+        1 => (end - 1).saturating_sub(more) + near,
+        2 => end - near,
+        3 => return (WINDOW_BASE, end - 1),
+        4..=5 => WINDOW_BASE + 16 * random.below(WINDOW_BYTES / 16) as u32,
+        _ => WINDOW_BASE + 16 * random.below(0x100) as u32,
+    };
+    (start, start + more)
 }
 
 /// A region of a VM that has room for it; it may clash with others.

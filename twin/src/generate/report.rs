@@ -50,7 +50,7 @@ fn log_file(random: &mut Random, config: &Config) -> LogFile {
         4 => cut_log(random, config),
         5 => foreign_first_byte(random, config),
         6 => too_long(random, config),
-        7 => LogMaker::new(random, config).bytes(MAX_LOG_BYTES),
+        7 => LogMaker::ticking(random, config).bytes(MAX_LOG_BYTES),
         8 => long_run(random, config),
         9 => return LogFile::Folder,
         _ => ordinary_log(random, config),
@@ -64,12 +64,12 @@ fn ordinary_log(random: &mut Random, config: &Config) -> Vec<u8> {
 
 fn long_run(random: &mut Random, config: &Config) -> Vec<u8> {
     let length = random.between(3_000, MAX_LOG_BYTES);
-    LogMaker::new(random, config).bytes(length)
+    LogMaker::ticking(random, config).bytes(length)
 }
 
 fn too_long(random: &mut Random, config: &Config) -> Vec<u8> {
     let length = MAX_LOG_BYTES + random.pick(&[1, 2, 100, 5_536]);
-    LogMaker::new(random, config).bytes(length)
+    LogMaker::ticking(random, config).bytes(length)
 }
 
 /// Ticks before Start, which are all refused.

@@ -1,6 +1,7 @@
 //! Values for generated events: addresses, bit masks, arguments, offsets, and events of any kind.
 
 use crate::core::event::Event;
+use crate::generate::copies::any_copy;
 use crate::generate::random::Random;
 
 pub fn address(random: &mut Random) -> u32 {
@@ -41,7 +42,7 @@ pub fn write_offset(random: &mut Random) -> u8 {
 /// Any event with any content, to be refused as often as not.
 pub fn any_event(random: &mut Random) -> Event {
     let vm = any_vm(random);
-    match random.below(9) {
+    match random.below(10) {
         0 => Event::Start,
         1 => Event::Tick { address: address(random) },
         2 => Event::Stop { vm },
@@ -56,10 +57,11 @@ pub fn any_event(random: &mut Random) -> Event {
             let offset = if random.percent(80) { random.below(44) as u8 } else { random.byte() };
             Event::Write { offset, value: mask(random) }
         }
-        _ => {
+        8 => {
             let code = if random.percent(80) { random.below(8) as u8 } else { random.byte() };
             Event::Fault { code, data: address(random) }
         }
+        _ => Event::Copy(any_copy(random)),
     }
 }
 

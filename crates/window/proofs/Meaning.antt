@@ -1,0 +1,162 @@
+-- What a copy means, byte by byte (D36), and that a memory of zeros stays one.
+use Prim.Native.Nat.{suc, zero, ℕ, _+_, _-_, _<_, _≤_}
+use borrow.Author.Tests.{le-leb, le-ltb, leb-true, lt-leb, lt-ltb, ltb-true}
+use lib.Dec.{leb, ltb}
+use lib.ListN.{List·getD-append, drop, getD, length, length-append, length-drop, length-replicate, length-take, replicate, take}
+use lib.Seq.{ext-getD, getD-append-add, getD-drop, getD-take, length-paste}
+use mathlib.Core.Bool.{Bool, false, true}
+use mathlib.Core.List.{List, [], _++_, _∷_}
+use mathlib.Core.Logic.{_≢_}
+use mathlib.Core.Path.{ap, refl, sym, _∙_, _≡_}
+use native.Mathlib.Decide.{decLe, decLt, ℕ-discrete}
+use native.Mathlib.Omega.{arith}
+use Rattle.basis.specs.Choice.{both, pick}
+use Rattle.window.proofs.Inside.{Bounds, fits-bounds}
+use Rattle.window.proofs.Laws.{copied-append, moved-none}
+use Rattle.window.specs.Bytes.{copied}
+use Rattle.window.specs.Pieces.{copiedAll, fits, moved, noExtent, windowOf}
+use Rattle.window.specs.declared.Extent.{Extent}
+
+-- an element of two lists one behind the other
+join-at : (a b : List ℕ) (n i : ℕ) → length a ≡ n → getD (a ++ b) i 0 ≡ pick (ltb i n) (getD a i 0) (getD b (i - n) 0)
+join-at a b n i e =
+    elim (decLt i n) [
+      | yes h ↦ rw (lt-ltb i n h) (List·getD-append a b 0 i (omega arith))
+      | no h ↦ (let g : n ≤ i = omega arith in
+          rw (le-ltb i n g) (ap (λ (k : ℕ). getD (a ++ b) k 0) (omega arith) ∙ getD-append-add a b (i - n) 0))
+    ]
+
+module _ (from to n : ℕ) (m : List ℕ) (h : from + n ≤ length m) (g : to + n ≤ length m) where
+  front : length (take to m ++ take n (drop from m)) ≡ to + n
+  front = length-append (take to m) (take n (drop from m)) ∙ (let a = length-take to m in let b = length-take n (drop from m) in let c = length-drop from m in omega arith)
+
+  -- the bytes from `to` on are those that stood from `from` on; every other byte is as it was
+  pub copied-in : (i : ℕ) → to ≤ i → i < to + n → getD (copied from to n m) i 0 ≡ getD m (from + (i - to)) 0
+  unfolding copied
+  copied-in i a b =
+      join-at (take to m ++ take n (drop from m)) (drop (to + n) m) (to + n) i front
+      ∙ rw (lt-ltb i (to + n) b) (join-at (take to m) (take n (drop from m)) to i (let t = length-take to m in omega arith) ∙ rw (le-ltb i to a) (getD-take n (drop from m) (i - to) 0 (omega arith) ∙ getD-drop from m (i - to) 0))
+
+  pub copied-below : (i : ℕ) → i < to → getD (copied from to n m) i 0 ≡ getD m i 0
+  unfolding copied
+  copied-below i a =
+      join-at (take to m ++ take n (drop from m)) (drop (to + n) m) (to + n) i front
+      ∙ rw (lt-ltb i (to + n) (omega arith)) (join-at (take to m) (take n (drop from m)) to i (let t = length-take to m in omega arith) ∙ rw (lt-ltb i to a) (getD-take to m i 0 a))
+
+  pub copied-above : (i : ℕ) → to + n ≤ i → getD (copied from to n m) i 0 ≡ getD m i 0
+  unfolding copied
+  copied-above i a =
+      join-at (take to m ++ take n (drop from m)) (drop (to + n) m) (to + n) i front
+      ∙ rw (le-ltb i (to + n) a) (getD-drop (to + n) m (i - (to + n)) 0 ∙ ap (λ (k : ℕ). getD m k 0) (omega arith))
+
+  pub copied-long : length (copied from to n m) ≡ length m
+  unfolding copied
+  copied-long = length-paste m to (drop from m) n g (let c = length-drop from m in omega arith)
+
+-- whether an address lies in the destination of an extent; none lies in that of an extent of length 0
+abbrev pub inDestination : Extent → ℕ → Bool
+inDestination x a = both (leb (x .destination) a) (ltb a (x .destination + x .length))
+
+-- where the byte of an address in the destination comes from, as a place in the memory
+abbrev pub sourceOf : ℕ → Extent → ℕ → ℕ
+sourceOf base x i = x .source - base + (base + i - x .destination)
+
+-- D34: where each of some extents fits
+abbrev pub allFit : ℕ → List Extent → List ℕ → Type 0
+allFit base xs m = (k : ℕ) → k < length xs → fits (windowOf base m) (getD xs k noExtent) ≡ true
+
+module _ (base : ℕ) (x : Extent) (m : List ℕ) (f : fits (windowOf base m) x ≡ true) where
+  -- a copy keeps the length of the memory
+  pub moved-long : length (moved base x m) ≡ length m
+  moved-long =
+      elim (ℕ-discrete (x .length) 0) [
+        | yes e ↦ ap (λ (l : List ℕ). length l) (sym (moved-none base x m e))
+        | no e ↦ (let b = fits-bounds (windowOf base m) x f e in
+            copied-long (x .source - base) (x .destination - base) (x .length) m (omega (arith, b .from, b .from-end)) (omega (arith, b .to, b .to-end)))
+      ]
+
+  -- D36: in the destination the source's bytes as they stood, elsewhere the bytes as before
+  pub moved-at : (i : ℕ) → getD (moved base x m) i 0 ≡ pick (inDestination x (base + i)) (getD m (sourceOf base x i) 0) (getD m i 0)
+  moved-at i =
+      elim (decLe (x .destination) (base + i)) [
+        | yes h ↦ rw (le-leb (x .destination) (base + i) h) (elim (decLt (base + i) (x .destination + x .length)) [
+          | yes g ↦ rw (lt-ltb (base + i) (x .destination + x .length) g) (let b = bounds (omega arith) in
+              copied-in (x .source - base) (x .destination - base) (x .length) m (omega (arith, b .from, b .from-end)) (omega (arith, b .to, b .to-end)) i (omega (arith, b .to)) (omega (arith, b .to))
+              ∙ ap (λ (k : ℕ). getD m k 0) (omega (arith, b .to)))
+          | no g ↦ rw (le-ltb (base + i) (x .destination + x .length) (omega arith)) (same (λ b. copied-above (x .source - base) (x .destination - base) (x .length) m (omega (arith, b .from, b .from-end)) (omega (arith, b .to, b .to-end)) i (omega (arith, b .to))))
+        ])
+        | no h ↦ rw (lt-leb (x .destination) (base + i) (omega arith)) (same (λ b. copied-below (x .source - base) (x .destination - base) (x .length) m (omega (arith, b .from, b .from-end)) (omega (arith, b .to, b .to-end)) i (omega (arith, b .to))))
+      ]
+    where
+      bounds : x .length ≢ 0 → Bounds (windowOf base m) x
+      bounds = fits-bounds (windowOf base m) x f
+
+      same : (Bounds (windowOf base m) x → getD (moved base x m) i 0 ≡ getD m i 0) → getD (moved base x m) i 0 ≡ getD m i 0
+      same g =
+          elim (ℕ-discrete (x .length) 0) [
+            | yes e ↦ ap (λ (l : List ℕ). getD l i 0) (sym (moved-none base x m e))
+            | no e ↦ g (bounds e)
+          ]
+
+-- what fits a memory fits it after a copy
+rest-fits : (base : ℕ) (x : Extent) (xs : List Extent) (m : List ℕ) → allFit base (x ∷ xs) m → allFit base xs (moved base x m)
+rest-fits base x xs m f k h = rw (moved-long base x m (f zero (omega arith))) (f (suc k) (omega arith))
+
+pub copied-all-long : (base : ℕ) (xs : List Extent) (m : List ℕ) → allFit base xs m → length (copiedAll base xs m) ≡ length m
+unfolding copiedAll
+copied-all-long base [] m f = refl
+copied-all-long base (x ∷ xs) m f = copied-all-long base xs (moved base x m) (rest-fits base x xs m f) ∙ moved-long base x m (f zero (omega arith))
+
+-- D36: a byte that lies in no destination is as before
+pub copied-all-else : (base : ℕ) (xs : List Extent) (m : List ℕ) (i : ℕ) → allFit base xs m
+    → ((k : ℕ) → k < length xs → inDestination (getD xs k noExtent) (base + i) ≡ false) → getD (copiedAll base xs m) i 0 ≡ getD m i 0
+unfolding copiedAll
+copied-all-else base [] m i f g = refl
+copied-all-else base (x ∷ xs) m i f g =
+    copied-all-else base xs (moved base x m) i (rest-fits base x xs m f) (λ k h. g (suc k) (omega arith))
+    ∙ moved-at base x m (f zero (omega arith)) i
+    ∙ rw (g zero (omega arith))
+
+-- D36: the bytes of the last destination are those of its source as they stood after the extents before it
+pub copied-all-last : (base : ℕ) (xs : List Extent) (x : Extent) (m : List ℕ) (i : ℕ) → allFit base xs m → fits (windowOf base m) x ≡ true
+    → inDestination x (base + i) ≡ true → getD (copiedAll base (xs ++ (x ∷ [])) m) i 0 ≡ getD (copiedAll base xs m) (sourceOf base x i) 0
+copied-all-last base xs x m i f g h =
+    ap (λ (l : List ℕ). getD l i 0) (copied-append base xs x m)
+    ∙ moved-at base x (copiedAll base xs m) (rw (copied-all-long base xs m f) g) i
+    ∙ rw h
+
+-- a run begins with zeros, and no copy makes anything else of them
+zeros-at : (k i : ℕ) → _≡_ {A = ℕ} (getD (replicate k 0) i 0) 0
+zeros-at zero i = refl
+zeros-at (suc k) zero = refl
+zeros-at (suc k) (suc i) = zeros-at k i
+
+pub zeros-copied : (from to n k : ℕ) → from + n ≤ k → to + n ≤ k → copied from to n (replicate k 0) ≡ replicate k 0
+zeros-copied from to n k h g =
+    let z : ℕ = 0 in
+    let l : length (replicate k z) ≡ k = length-replicate k z in
+    let h′ : from + n ≤ length (replicate k z) = omega arith in
+    let g′ : to + n ≤ length (replicate k z) = omega arith in
+    ext-getD 0 (copied from to n (replicate k 0)) (replicate k 0) (copied-long from to n (replicate k 0) h′ g′)
+    (λ i j. elim (decLt i to) [
+      | yes a ↦ copied-below from to n (replicate k 0) h′ g′ i a
+      | no a ↦ elim (decLt i (to + n)) [
+        | yes b ↦ copied-in from to n (replicate k 0) h′ g′ i (omega arith) b ∙ zeros-at k (from + (i - to)) ∙ sym (zeros-at k i)
+        | no b ↦ copied-above from to n (replicate k 0) h′ g′ i (omega arith)
+      ]
+    ])
+
+zeros-moved : (base : ℕ) (x : Extent) (k : ℕ) → fits (windowOf base (replicate k 0)) x ≡ true → moved base x (replicate k 0) ≡ replicate k 0
+zeros-moved base x k f =
+    elim (ℕ-discrete (x .length) 0) [
+      | yes e ↦ sym (moved-none base x (replicate k 0) e)
+      | no e ↦ (let z : ℕ = 0 in let l = length-replicate k z in let b = fits-bounds (windowOf base (replicate k 0)) x f e in
+          zeros-copied (x .source - base) (x .destination - base) (x .length) k (omega (arith, l, b .from, b .from-end)) (omega (arith, l, b .to, b .to-end)))
+    ]
+
+pub zeros-all : (base : ℕ) (xs : List Extent) (k : ℕ) → allFit base xs (replicate k 0) → copiedAll base xs (replicate k 0) ≡ replicate k 0
+unfolding copiedAll
+zeros-all base [] k f = refl
+zeros-all base (x ∷ xs) k f =
+    let e = zeros-moved base x k (f zero (omega arith)) in
+    rw e (zeros-all base xs k (λ j h. f (suc j) (omega arith)))
