@@ -4,7 +4,9 @@ use std::path::PathBuf;
 use std::process::Command;
 
 use twin::access::folder::AccessFolder;
+use twin::core::config::Config;
 use twin::core::flaw::Flaw;
+use twin::core::region::Region;
 use twin::coverage::access::AccessCoverage;
 use twin::coverage::cases::{never_reached, Coverage};
 use twin::edges::access::edge_accesses;
@@ -148,17 +150,20 @@ fn an_image_made_for_a_fault_has_it() {
     }
 }
 
-/// No rule: what the random cases hold: most are accepted, and most have no regions or a few.
+/// No rule: what the random cases hold: most are accepted, most have no regions or a few, and many have some of
+/// the window.
 #[test]
 fn most_random_images_are_accepted_and_have_few_regions() {
     let maker = CaseMaker::new(8);
     let numbers = maker.edge_count()..maker.edge_count() + 2_000;
-    let counts: Vec<u8> = numbers
-        .filter_map(|number| read_image(&maker.case(number).image, Flaw::None).ok())
-        .map(|config| config.region_count)
-        .collect();
+    let configs: Vec<Config> =
+        numbers.filter_map(|number| read_image(&maker.case(number).image, Flaw::None).ok()).collect();
+    let counts: Vec<u8> = configs.iter().map(|config| config.region_count).collect();
     assert!(counts.len() > 1_700, "{}", counts.len());
     let few = counts.iter().filter(|count| **count <= 5).count();
-    assert!(few * 10 > counts.len() * 8 && counts.iter().any(|count| *count > 50), "{few}");
-    assert!(counts.iter().filter(|count| **count == 0).count() * 3 > counts.len());
+    assert!(few * 10 > counts.len() * 6 && counts.iter().any(|count| *count > 50), "{few}");
+    assert!(counts.iter().filter(|count| **count == 0).count() * 4 > counts.len());
+    let in_window = |region: &Region| region.start < 0x4000_4000 && region.last >= 0x4000_0000;
+    let with_window = configs.iter().filter(|config| config.memory().iter().any(in_window)).count();
+    assert!(with_window * 4 > configs.len(), "{with_window}");
 }

@@ -70,7 +70,7 @@ fn many_answers_a_torn_stream() {
 /// No rule: the arguments of the twin.
 #[test]
 fn wrong_arguments_are_named() {
-    let wrong: [(&[&str], &str); 17] = [
+    let wrong: [(&[&str], &str); 21] = [
         (&[], "no command given"),
         (&["fly"], "'fly' is not a command"),
         (&["pack", "one"], "'pack' has other arguments"),
@@ -88,6 +88,10 @@ fn wrong_arguments_are_named() {
         (&["many", "--wrong", "GapIsClosed"], "there is no wrong twin 'GapIsClosed'"),
         (&["pack-queries", "one"], "'pack-queries' has other arguments"),
         (&["compare", "--accesses", "x", "--seed", "1"], "--runlog is missing"),
+        (&["memlog", "one", "two", "three"], "'memlog' has other arguments"),
+        (&["memlog", "--wrong", "CopyDelivers"], "there is no wrong twin 'CopyDelivers'"),
+        (&["many", "--wrong", "CopiesForwards"], "there is no wrong twin 'CopiesForwards'"),
+        (&["compare", "--memlogs", "x", "--seed", "1"], "--runlog is missing"),
     ];
     for (arguments, words) in wrong {
         let (status, output, message) = twin(arguments);
@@ -121,7 +125,7 @@ fn closed_output() -> Stdio {
 fn an_output_that_cannot_be_written_is_no_matter() {
     let place = folder("closed-output");
     fs::write(place.join("stream"), [0; 4]).expect("written");
-    for command in ["run", "state", "report", "access", "many"] {
+    for command in ["run", "state", "report", "access", "memlog", "many"] {
         let mut program = Command::new(env!("CARGO_BIN_EXE_twin"));
         program.arg(command).current_dir(&place).stdin(File::open(place.join("stream")).expect("there"));
         let printed = program.output().expect("the twin starts").stdout;

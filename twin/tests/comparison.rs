@@ -59,6 +59,7 @@ fn the_twin_agrees_with_itself_and_reaches_every_point() {
     assert!(outcome.text.contains("runlog: 32 runs with files"));
     assert!(!outcome.text.contains("report"), "no reports were asked for");
     assert!(!outcome.text.contains("access: "), "no access queries were asked for");
+    assert!(!outcome.text.contains("memory: "), "no windows were asked for");
     assert!(!keep.exists());
 }
 
@@ -162,19 +163,21 @@ fn too_few_cases_are_said_to_be_too_few() {
     assert!(outcome.text.contains("points were never reached"), "{}", outcome.text);
 }
 
-/// H1 to H11, I6, I8, I9, I15, T10, N9, N13 to N25, M1 to M7: every easy mistake and every other wrong twin
+/// H1 to H11, I6, I8, I9, I15, T10, E13, D31 to D37, N9, N13 to N28, M1 to M8: every easy mistake and every other wrong twin
 /// is told from the right one.
 #[test]
 fn every_wrong_twin_is_told_apart() {
     let (text, well) = selftest(1, 500);
     assert!(well, "{text}");
-    assert_eq!(text.matches("told apart at case").count(), 91);
+    assert_eq!(text.matches("told apart at case").count(), 137);
     assert_eq!(text.matches("told apart at folder").count(), 19);
     assert_eq!(text.matches("told apart at query folder").count(), 32);
+    assert_eq!(text.matches("told apart at memory folder").count(), 22);
     let (text, well) = selftest(1, 1);
     assert!(!well && text.contains("NEVER told apart in 1 cases"));
     assert!(text.contains("NEVER told apart in 1 folders"));
     assert!(text.contains("NEVER told apart in 1 query folders"));
+    assert!(text.contains("NEVER told apart in 1 memory folders"));
 }
 
 /// H1 to H7, I8, I9, I15, T10, A4, A5, R1, D13: every fault, notice, code and refusal, every number at every
@@ -216,7 +219,7 @@ fn the_random_cases_alone_reach_every_point_of_removals() {
     }
     let mut points = coverage.points();
     points.retain(|(name, _)| name.contains(" removes ") || name.contains(" removed "));
-    assert_eq!(points.len(), 6 * 4 + 1, "{points:?}");
+    assert_eq!(points.len(), 7 * 4 + 1, "{points:?}");
     assert_eq!(never_reached(points), Vec::<String>::new());
 }
 
@@ -233,7 +236,7 @@ fn the_fixed_cases_alone_reach_every_point_of_the_counts() {
     }
     let mut points = coverage.points();
     points.retain(|(name, _)| name.starts_with("counts: "));
-    assert_eq!(points.len(), 8 * 6 + 8 + 7 + 14, "{points:?}");
+    assert_eq!(points.len(), 8 * 6 + 9 + 7 + 14, "{points:?}");
     assert_eq!(never_reached(points), Vec::<String>::new());
 }
 
@@ -247,7 +250,7 @@ fn the_random_cases_alone_reach_the_points_of_the_counts() {
     }
     let mut points = coverage.points();
     points.retain(|(name, _)| name.starts_with("counts: ") && !name.ends_with(" comes to 16"));
-    assert_eq!(points.len(), 8 * 5 + 8 + 7 + 14, "{points:?}");
+    assert_eq!(points.len(), 8 * 5 + 9 + 7 + 14, "{points:?}");
     assert_eq!(never_reached(points), Vec::<String>::new());
 }
 

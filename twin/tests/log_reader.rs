@@ -2,8 +2,8 @@
 
 mod common;
 
-use common::{call, tick, worked_case, worked_events, write};
-use twin::core::event::Event;
+use common::{call, counted_copy, extent, tick, worked_case, worked_events, write};
+use twin::core::event::{CopyRequest, Event};
 use twin::core::flaw::Flaw;
 use twin::generate::random::Random;
 use twin::log::read::{event_body_length, read_record, Record};
@@ -14,10 +14,24 @@ fn printed(image: &[u8], log: &[u8]) -> String {
     String::from_utf8(run_text(image, log, Detail::Lines, Flaw::None)).expect("ascii")
 }
 
-/// E1 to E10, L2, L4: each kind of record, whole and cut at each place.
+/// A Copy with a number of its own in each field, and its 102 bytes (E13).
+fn whole_copy() -> (Event, Vec<u8>) {
+    let mut request = CopyRequest { count: 9, next: 0x0403_0201, ..CopyRequest::default() };
+    let mut bytes = vec![0x1a, 9, 1, 2, 3, 4];
+    for (index, place) in (0..).zip(&mut request.extents) {
+        *place = extent(0x1000_0000 + index, 0x2000_0100 + index, 0x3002_0000 + index);
+        let low = index as u8;
+        bytes.extend([low, 0, 0, 0x10, low, 1, 0, 0x20, low, 0, 2, 0x30]);
+    }
+    assert_eq!(bytes.len(), 102);
+    (Event::Copy(request), bytes)
+}
+
+/// E1 to E10, E13, L2, L4: each kind of record, whole and cut at each place.
 #[test]
 fn every_kind_has_its_bytes() {
-    let records: [(Event, &[u8]); 9] = [
+    let (copied, copy_bytes) = whole_copy();
+    let records: [(Event, &[u8]); 10] = [
         (Event::Start, &[0x10]),
         (tick(0x0403_0201), &[0x11, 1, 2, 3, 4]),
         (Event::Stop { vm: 7 }, &[0x12, 7]),
@@ -27,6 +41,7 @@ fn every_kind_has_its_bytes() {
         (call(4, 0x0403_0201, 0x0807_0605), &[0x16, 4, 1, 2, 3, 4, 5, 6, 7, 8]),
         (write(36, 0xffff_fffe), &[0x17, 36, 0xfe, 0xff, 0xff, 0xff]),
         (Event::Fault { code: 5, data: 0x1_0000 }, &[0x18, 5, 0, 0, 1, 0]),
+        (copied, &copy_bytes),
     ];
     for (event, bytes) in records {
         assert_eq!(log_of(&[event]), bytes);
@@ -53,8 +68,8 @@ fn any_bytes_read_as_records_are_written_again_the_same() {
     let mut random = Random::of_case(3, 3);
     let mut events = 0;
     for _ in 0..20_000 {
-        let mut bytes = random.bytes(10);
-        bytes[0] = 0x0e + bytes[0] % 12;
+        let mut bytes = random.bytes(102);
+        bytes[0] = 0x0e + bytes[0] % 14;
         let known = event_body_length(bytes[0]).is_some();
         match read_record(&bytes, 0) {
             Record::Event(event, next) => {
@@ -82,12 +97,39 @@ fn a_log_is_read_record_by_record() {
     assert_eq!((read_record(&log, at), at), (Record::End, log.len()));
 }
 
-/// L4: of all kinds 0x10 to 0x18 are read, and no other.
+/// E13, L4: of all kinds 0x10 to 0x18 and 0x1A are read, and no other: there is no kind 0x19.
 #[test]
-fn nine_kinds_are_known() {
+fn ten_kinds_are_known() {
     for kind in 0..=255 {
-        let known = matches!(read_record(&[kind, 0, 0, 0, 0, 0, 0, 0, 0, 0], 0), Record::Event(..));
-        assert_eq!(known, (0x10..=0x18).contains(&kind), "kind {kind}");
+        let mut bytes = [0; 102];
+        bytes[0] = kind;
+        let known = matches!(read_record(&bytes, 0), Record::Event(..));
+        assert_eq!(known, (0x10..=0x18).contains(&kind) || kind == 0x1a, "kind {kind}");
+    }
+    assert_eq!(read_record(&[0x19; 102], 0), Record::Unreadable(0));
+}
+
+/// E13, L4, N7: a Copy cut at each of its lengths, alone and behind other records; the next record begins
+/// behind 102 bytes, whatever the count is.
+#[test]
+fn the_record_of_a_copy_has_102_bytes() {
+    for count in [0, 1, 8, 9, 255] {
+        let bytes = log_of(&[counted_copy(count, &[extent(1, 2, 3)])]);
+        assert_eq!(bytes.len(), 102);
+        assert_eq!(event_body_length(0x1a), Some(101));
+        let log = [&[0x10][..], &bytes, &[0x10]].concat();
+        assert_eq!(
+            read_record(&log, 1),
+            Record::Event(counted_copy(count, &[extent(1, 2, 3)]), 103),
+            "count {count}"
+        );
+        assert_eq!(read_record(&log, 103), Record::Event(Event::Start, 104));
+        for length in 1..102 {
+            assert_eq!(read_record(&bytes[..length], 0), Record::Unreadable(0), "length {length}");
+            let log = [&[0x10][..], &bytes[..length]].concat();
+            assert_eq!(read_record(&log, 1), Record::Unreadable(1), "length {length}");
+            assert_eq!(printed(&worked_case().image, &log), "1 0 - - - 0 0 0\ncut 2\n");
+        }
     }
 }
 
@@ -99,7 +141,8 @@ fn no_number_is_judged_or_shortened() {
         let masters =
             [Event::Stop { vm }, Event::Shutdown { vm }, Event::Restart { vm }, Event::Extra { vm }];
         let guests = [call(byte, most, most), write(byte, most), Event::Fault { code, data: most }];
-        for event in masters.into_iter().chain(guests) {
+        let copied = Event::Copy(CopyRequest { count: byte, next: most, extents: [extent(most, most, most); 8] });
+        for event in masters.into_iter().chain(guests).chain([copied]) {
             let log = log_of(&[event]);
             assert_eq!(log[1], byte);
             assert!(log[2..].iter().all(|part| *part == 255));

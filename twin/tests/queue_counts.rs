@@ -345,6 +345,7 @@ impl Told {
             (Event::Fault { .. }, 0) => *self.count(before) = 0,
             // Of the Calls it is those that end their VM that remove.
             (Event::Call { .. }, 0) if answer.notice.number > 0 => *self.count(before) = 0,
+            (Event::Copy(_), 0) if answer.notice.number > 0 => *self.count(before) = 0,
             (Event::Tick { .. }, 0) => self.take_tick(answer.running),
             _ => {}
         }
@@ -396,8 +397,8 @@ fn m7_the_wrong_counts_are_those_of_their_mistakes() {
         })
     };
     let (right, kept) = ([0, 1], [2, 1]);
-    let kept_at = |place: usize| (0..6).map(|at| if at == place { kept } else { right }).collect::<Vec<_>>();
-    assert_eq!(removed(Flaw::None), [right; 6]);
+    let kept_at = |place: usize| (0..7).map(|at| if at == place { kept } else { right }).collect::<Vec<_>>();
+    assert_eq!(removed(Flaw::None), [right; 7]);
     let keeping = [
         Flaw::StopKeepsCount,
         Flaw::RestartKeepsCount,
@@ -405,6 +406,7 @@ fn m7_the_wrong_counts_are_those_of_their_mistakes() {
         Flaw::ServiceThreeKeepsCount,
         Flaw::BadInjectKeepsCount,
         Flaw::UnknownServiceKeepsCount,
+        Flaw::CopyKeepsCount,
     ];
     for (place, flaw) in keeping.into_iter().enumerate() {
         assert_eq!(removed(flaw).to_vec(), kept_at(place), "{flaw:?}");

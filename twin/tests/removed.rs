@@ -33,8 +33,8 @@ fn queued(size: u8, vms: &[u8]) -> Core {
 
 /// A4, A8, D14, D18, P12, M6: each kind of event that removes entries, beside one of another VM.
 #[test]
-fn p12_each_of_the_six_removes_the_two_of_vm_0() {
-    for (event, notice) in REMOVING.into_iter().zip([1, 0, 3, 2, 3, 3]) {
+fn p12_each_of_the_seven_removes_the_two_of_vm_0() {
+    for (event, notice) in REMOVING.into_iter().zip([1, 0, 3, 2, 3, 3, 3]) {
         let mut core = p12_core(Flaw::None);
         let answer = core.apply(event);
         assert_eq!((answer.refusal, answer.notice.number, answer.removed), (0, notice, 2), "{event:?}");
@@ -147,7 +147,7 @@ fn a_refusal_while_nobody_runs_or_the_state_is_not_sound_answers_0() {
     let mut core = queued(3, &[0, 1, 1]);
     assert_eq!(core.apply(Event::Stop { vm: 0 }).removed, 1);
     // Restart alone is not refused, and finds no entry of VM 0.
-    for (refusal, event) in [4, 0, 5, 5, 5, 5].into_iter().zip(REMOVING) {
+    for (refusal, event) in [4, 0, 5, 5, 5, 5, 5].into_iter().zip(REMOVING) {
         let expected = Answer { refusal, ..Answer::default() };
         assert_eq!(core.apply(event), expected, "{event:?}");
     }
@@ -274,6 +274,11 @@ impl History {
             (Event::Call { service: 4, .. }, 0) => self.of(vm).accepted += 1 - u64::from(answer.result),
             (Event::Tick { .. }, 0) => self.take_tick(answer.running),
             (Event::Stop { .. } | Event::Restart { .. } | Event::Fault { .. } | Event::Call { .. }, 0) => {
+                self.of(vm).removed += removed;
+                return Ok(());
+            }
+            // Of the Copies it is those that end their VM that remove.
+            (Event::Copy(_), 0) if answer.notice.number == 3 => {
                 self.of(vm).removed += removed;
                 return Ok(());
             }

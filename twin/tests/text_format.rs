@@ -2,8 +2,9 @@
 
 mod common;
 
-use common::worked_case;
+use common::{counted_copy, extent, worked_case};
 use twin::generate::case::CaseMaker;
+use twin::log::write::log_of;
 use twin::readable_text::parse::case_of;
 use twin::readable_text::print::text_of;
 use twin::run::frames::Case;
@@ -32,6 +33,10 @@ stop 2
 stop 0
 tick 0x0
 ";
+
+const TOO_MANY_EXTENTS: &str = "log
+copy count 1 next 0 extent 0 0 0 extent 0 0 0 extent 0 0 0 extent 0 0 0 extent 0 0 0 extent 0 0 0 \
+extent 0 0 0 extent 0 0 0 extent 0 0 0";
 
 fn message(text: &str) -> (usize, String) {
     let error = case_of(text).expect_err("this text is wrong");
@@ -64,6 +69,24 @@ fn a_region_is_one_line() {
     assert_eq!(case_of(line), Ok(case));
     let decimal = case_of("region vm 255 permission 0 start 4294967295 last 0x1").expect("a good text");
     assert_eq!(decimal.image, [5, 255, 0, 255, 255, 255, 255, 1, 0, 0, 0]);
+}
+
+/// E13: a Copy as a line, both ways; extents of zeros at its end are left out.
+#[test]
+fn a_copy_is_one_line() {
+    let line = "copy count 2 next 0x1010 extent 0x40000000 0x40001000 16 extent 0x0 0x0 0 extent 0x1 0x2 3\n";
+    let named = [extent(0x4000_0000, 0x4000_1000, 16), extent(0, 0, 0), extent(1, 2, 3)];
+    let case = Case { image: Vec::new(), log: log_of(&[counted_copy(2, &named)]) };
+    assert_eq!(case.log.len(), 102);
+    assert_eq!(text_of(&case), format!("\nlog\n{line}"));
+    assert_eq!(case_of(&format!("log\n{line}")), Ok(case));
+    let bare = Case { image: Vec::new(), log: log_of(&[counted_copy(255, &[])]) };
+    assert_eq!(text_of(&bare), "\nlog\ncopy count 255 next 0x1010\n");
+    assert_eq!(case_of("log\ncopy count 255 next 4112 # no extents\n"), Ok(bare.clone()));
+    assert_eq!(case_of("log\ncopy count 0xff next 4112 extent 0 0 0"), Ok(bare));
+    let full = Case { image: Vec::new(), log: log_of(&[counted_copy(8, &[extent(7, 8, u32::MAX); 8])]) };
+    assert_eq!(text_of(&full).matches(" extent 0x7 0x8 4294967295").count(), 8);
+    assert_eq!(case_of(&text_of(&full)), Ok(full));
 }
 
 /// No rule: the readable text keeps every byte.
@@ -113,6 +136,13 @@ fn errors_name_the_line_and_the_matter() {
         ("log\ntick -1", 2, "'-1' after 'tick' is not a number"),
         ("log\ntick 0x100000000", 2, "0x100000000 after 'tick' does not fit in 32 bits"),
         ("log\ntick 99999999999999999999", 2, "does not fit in 32 bits"),
+        ("log\ncopy next 0", 2, "'next' stands where 'count' should"),
+        ("log\ncopy count 256 next 0", 2, "256 after 'count' does not fit in 8 bits"),
+        ("log\ncopy count 1", 2, "the line ends where 'next' should stand"),
+        ("log\ncopy count 1 next 0 extent 1 2", 2, "the number after 'extent' is missing"),
+        ("log\ncopy count 1 next 0 extent 1 2 4294967296", 2, "after 'extent' does not fit in 32 bits"),
+        ("log\ncopy count 1 next 0 1 2 3", 2, "'1' is not known here; expected 'extent SOURCE DESTINATION"),
+        (TOO_MANY_EXTENTS, 2, "'extent' is not known here; expected no more extents than 8"),
         ("raw 1", 1, "'1' is not a byte of two hexadecimal digits"),
         ("raw +1", 1, "'+1' is not a byte of two hexadecimal digits"),
     ];

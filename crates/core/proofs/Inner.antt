@@ -15,12 +15,13 @@ use Rattle.basis.proofs.Laws.{false-true}
 use Rattle.basis.specs.Choice.{both, pick}
 use Rattle.basis.specs.Nobody.{nobody}
 use Rattle.change.specs.Answers.{noNotice}
-use Rattle.change.specs.Changes.{answerBy, calledFrom, renewedFrom}
+use Rattle.change.specs.Changes.{answerBy, calledFrom, copyingFrom, renewedFrom}
 use Rattle.change.specs.declared.Answer.{Answer}
 use Rattle.change.specs.declared.Change.{Change}
 use Rattle.config.specs.declared.Config.{Config}
+use Rattle.copies.specs.declared.Failure.{Failure}
 use Rattle.core.specs.Changes.{changedBy}
-use Rattle.core.specs.Events.{done, innerOf, startCore, stepOf, tickClock, tickOwner, tickQueue, tickTurn}
+use Rattle.core.specs.Events.{copying, done, failureOf, innerOf, startCore, stepOf, tickClock, tickOwner, tickQueue, tickTurn}
 use Rattle.core.specs.Parts.{changeAt, changeIn, kept, partsOf}
 use Rattle.core.specs.Refusals.{refusalOf, refused, rowOf}
 use Rattle.core.specs.Sound.{sound}
@@ -29,10 +30,10 @@ use Rattle.core.specs.declared.After.{After}
 use Rattle.core.specs.declared.Core.{Core}
 use Rattle.core.specs.declared.Stepped.{Stepped}
 use Rattle.event.proofs.Event as E
-use Rattle.event.specs.Kinds.{isExtra, isStart, isTick, ofMaster, ofRunning, subject, wantsReady}
-use Rattle.event.specs.declared.Event.the-variants.{Call, Extra, Fault, Restart, Shutdown, Start, Stop, Tick, Write}
+use Rattle.event.specs.Kinds.{isCopy, isExtra, isStart, isTick, ofMaster, ofRunning, subject, wantsReady}
+use Rattle.event.specs.declared.Event.the-variants.{Call, Copy, Extra, Fault, Restart, Shutdown, Start, Stop, Tick, Write}
 use Rattle.event.specs.declared.Event.{Event}
-use Rattle.guest.specs.Record.{fresh, isReady}
+use Rattle.guest.specs.Record.{fresh, isReady, savedAt}
 use Rattle.guest.specs.declared.Vm.{Vm}
 use Rattle.logic.specs.Changing.{changeFrom, placeFrom}
 use Rattle.logic.specs.Rows.{rowFrom, strayFault, strayWrite}
@@ -44,6 +45,8 @@ use Rattle.table.specs.declared.Clock.{Clock}
 use Rattle.vms.proofs.Laws.{turn-served}
 use Rattle.vms.specs.Tick.{turn, turnBy}
 use Rattle.vms.specs.declared.Turn.{Turn}
+use Rattle.window.specs.declared.Pieces.{Pieces}
+use Rattle.window.specs.declared.Window.{Window}
 
 -- ---- refused, or done
 
@@ -91,6 +94,7 @@ done-config c (Extra v) = refl
 done-config c (Call x y z) = refl
 done-config c (Write x y) = refl
 done-config c (Fault x y) = refl
+done-config c (Copy p w) = refl
 
 pub inner-config : (c : Core) (e : Event) → innerOf c e .core .config ≡ c .config
 unfolding innerOf refused
@@ -177,6 +181,7 @@ row-is c (Extra v) = refl
 row-is c (Call x y z) = refl
 row-is c (Write x y) = refl
 row-is c (Fault x y) = refl
+row-is c (Copy p w) = refl
 
 -- no row of these has the number of an unsound state
 not-first : (a b c d e f g h : Bool) → _≡_ {A = ℕ} (pick a 7 (pick b 2 (pick c 3 (pick d 4 (pick e 6 (pick f 5 (pick g 8 (pick h 9 0)))))))) 1 → ⊥
@@ -221,6 +226,7 @@ change-place (Call service argument next) v vm running queue noRoom left entry h
     (place-pick v (eqb service 4) _ _ (place-pick v noRoom _ _ refl refl) refl))))
 change-place (Write x y) v vm running queue noRoom left entry handler = refl
 change-place (Fault x y) v vm running queue noRoom left entry handler = refl
+change-place (Copy p w) v vm running queue noRoom left entry handler = refl
 
 -- what the code makes of a change: the record at the place, who runs, the queue, the answer
 abbrev applied : Core → ℕ → ℕ → Change → After
@@ -260,30 +266,50 @@ module _ (c : Core) (e : Event) where
       go row false t h = (rw (h, hp) (applied-not n row (eqb-false n 0 t)))
 
 -- such an event, and no other, is done by its change
-pub plain : (c : Core) (e : Event) → isTick e ≡ false → isStart e ≡ false → changedBy c (changeAt c e (placeFrom e (c .running))) ≡ done c e
+pub plain : (c : Core) (e : Event) → isTick e ≡ false → isStart e ≡ false → isCopy e ≡ false → changedBy c (changeAt c e (placeFrom e (c .running))) ≡ done c e
 unfolding done changeFrom
-plain c Start t s = false-true (sym s)
-plain c (Tick a) t s = false-true (sym t)
-plain c (Stop v) t s = refl
-plain c (Shutdown v) t s = refl
-plain c (Restart v) t s = refl
-plain c (Extra v) t s = refl
-plain c (Call x y z) t s = refl
-plain c (Write x y) t s = refl
-plain c (Fault x y) t s = refl
+plain c Start t s k = false-true (sym s)
+plain c (Tick a) t s k = false-true (sym t)
+plain c (Stop v) t s k = refl
+plain c (Shutdown v) t s k = refl
+plain c (Restart v) t s k = refl
+plain c (Extra v) t s k = refl
+plain c (Call x y z) t s k = refl
+plain c (Write x y) t s k = refl
+plain c (Fault x y) t s k = refl
+plain c (Copy p w) t s k = false-true (sym k)
 
-change-is : (c : Core) (e : Event) → isTick e ≡ false → isStart e ≡ false → changeIn c e ≡ innerOf c e
+change-is : (c : Core) (e : Event) → isTick e ≡ false → isStart e ≡ false → isCopy e ≡ false → changeIn c e ≡ innerOf c e
 unfolding changeIn innerOf
-change-is c e t s = rw (plain c e t s)
+change-is c e t s k = rw (plain c e t s k)
 
--- the arm of all events but Start and Tick
+-- the arm of all events but Start, Tick and Copy
 pub other-arm : (c : Core) (e : Event) → OneOf (2 ∷ 3 ∷ 4 ∷ 5 ∷ 6 ∷ 7 ∷ 8 ∷ []) (tagOf E.the-type e) → changeIn c e ≡ innerOf c e
 other-arm c Start k = absurd (miss (2 ∷ 3 ∷ 4 ∷ 5 ∷ 6 ∷ 7 ∷ 8 ∷ []) 0 tt k)
 other-arm c (Tick a) k = absurd (miss (2 ∷ 3 ∷ 4 ∷ 5 ∷ 6 ∷ 7 ∷ 8 ∷ []) 1 tt k)
-other-arm c (Stop v) k = change-is c (Stop v) refl refl
-other-arm c (Shutdown v) k = change-is c (Shutdown v) refl refl
-other-arm c (Restart v) k = change-is c (Restart v) refl refl
-other-arm c (Extra v) k = change-is c (Extra v) refl refl
-other-arm c (Call x y z) k = change-is c (Call x y z) refl refl
-other-arm c (Write x y) k = change-is c (Write x y) refl refl
-other-arm c (Fault x y) k = change-is c (Fault x y) refl refl
+other-arm c (Stop v) k = change-is c (Stop v) refl refl refl
+other-arm c (Shutdown v) k = change-is c (Shutdown v) refl refl refl
+other-arm c (Restart v) k = change-is c (Restart v) refl refl refl
+other-arm c (Extra v) k = change-is c (Extra v) refl refl refl
+other-arm c (Call x y z) k = change-is c (Call x y z) refl refl refl
+other-arm c (Write x y) k = change-is c (Write x y) refl refl refl
+other-arm c (Fault x y) k = change-is c (Fault x y) refl refl refl
+other-arm c (Copy p w) k = absurd (miss (2 ∷ 3 ∷ 4 ∷ 5 ∷ 6 ∷ 7 ∷ 8 ∷ []) 9 tt k)
+
+-- ---- a Copy
+
+-- a change is of the VM that copies
+copying-place : (running : ℕ) (queue : Queue) (v : ℕ) (vm : Vm) (code detail : ℕ) → copyingFrom running queue v vm code detail .place ≡ v
+unfolding copyingFrom
+copying-place running queue v vm code detail = place-pick v (eqb code 0) _ _ refl refl
+
+-- a Copy as the code makes it: the failure, the change of the VM that runs, its record stored
+pub copy-law : (c : Core) (p : Pieces) (w : Window) (vm saved runs : Vm) (f : Failure) (d : Change) (l : List Vm) (a : Answer)
+    → vm ≡ vmAt c (c .running) → f ≡ failureOf c w p → saved ≡ savedAt (p .next) vm
+    → d ≡ copyingFrom (c .running) (c .queue) (c .running) saved (f .code) (f .detail)
+    → l ≡ set (c .vms) (c .running) (d .vm) → runs ≡ getD l (d .running) fresh → a ≡ answerBy d 0 (d .running) (runs .address)
+    → record { vms = l; clock = c .clock; running = d .running; queue = d .queue; answer = a } ≡ partsOf (done c (Copy p w))
+unfolding done
+copy-law c p w vm saved runs f d l a hvm hf hs hd hl hr ha =
+    let e : d ≡ copying c w p = hd ∙ rw (hs, hvm, hf) in
+    rw (ha, hr, hl, e, copying-place (c .running) (c .queue) (c .running) (savedAt (p .next) (vmAt c (c .running))) (failureOf c w p .code) (failureOf c w p .detail))

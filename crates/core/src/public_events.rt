@@ -2,8 +2,11 @@
 use crate::Core;
 use crate::Stepped;
 use event::Event;
+use window::Pieces;
+use window::Window;
 ghost use mathlib.Core.Path.{_≡_};
 ghost use Rattle.core.specs.Events.{innerOf, stepOf};
+ghost use Rattle.core.specs.Memory.{copyIn, memoryAfter};
 
 impl Core {
     // D1, D2. Each event is a method that takes the state by value (K3).
@@ -67,6 +70,26 @@ impl Core {
         ensures { λ r. ⌜ r ≡ stepOf self (Event.Fault code detail) ⌝ }
     {
         self.step(Event::Fault(code, detail))
+    }
+
+    // D31 to D36: a Copy with the memory that is lent for it, from the base address on. All of it is checked before a byte moves (D35).
+    pub fn copy(self, p: Pieces, m: &mut [u8], base: u32) -> Stepped
+        ensures { λ r. ⌜ (r ≡ stepOf self (copyIn p base (now (m .entry)))) × (now (m .exit) ≡ memoryAfter self (copyIn p base (now (m .entry))) (now (m .entry))) ⌝ }
+    {
+        let w = Window {
+            base: base,
+            size: m.len(),
+        };
+        let after = self.step(Event::Copy(p, w));
+        if after.answer.refusal != 0 {
+            return after;
+        }
+        if after.answer.notice.kind != 0 {
+            return after;
+        }
+        let xs = p.extents();
+        window::copy_all(m, base, xs, p.count as usize);
+        after
     }
 
     // Any event: the state after it, with the answer (T8), or its refusal (R1).

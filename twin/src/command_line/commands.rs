@@ -6,16 +6,18 @@ use std::path::{Path, PathBuf};
 use crate::access::folder::AccessFolder;
 use crate::command_line::files::{
     files_of, pack, pack_logs, pack_queries, unpack, unpack_logs, unpack_queries, write_case,
-    write_case_logs, write_case_queries,
+    write_case_logs, write_case_memory, write_case_queries,
 };
 use crate::command_line::options::Options;
 use crate::compare::accesses::AccessPlan;
 use crate::compare::child::CommandLine;
 use crate::compare::files::FileProgram;
+use crate::compare::memories::MemoryPlan;
 use crate::compare::reports::ReportPlan;
 use crate::compare::selftest::selftest;
 use crate::compare::whole::{compare, Plan};
 use crate::core::flaw::Flaw;
+use crate::memlog::folder::MemoryFolder;
 use crate::report::folder::ReportFolder;
 use crate::run::frames::answer_stream;
 use crate::run::text::{run_text, Detail};
@@ -27,6 +29,8 @@ pub const USAGE: &str = "usage:
   twin report --wrong NAME            what that wrong twin of the report prints for the files here
   twin access [DIR]                   what access prints for the image and the queries in DIR
   twin access --wrong NAME            what that wrong twin of access prints for the files here
+  twin memlog [DIR]                   what memlog prints for the files in DIR: the run and its window
+  twin memlog --wrong NAME            what that wrong twin of the window prints for the files here
   twin many [--wrong NAME]            what many prints for the stream on standard input;
                                       with a name from selftest, what that wrong twin prints
   twin pack TEXTFILE DIR              makes config.bin and events.bin from a text
@@ -36,14 +40,16 @@ pub const USAGE: &str = "usage:
   twin pack-queries TEXTFILE DIR      makes config.bin and queries.bin from a text
   twin unpack-queries DIR TEXTFILE    makes the text from config.bin and queries.bin
   twin compare --seed N --cases N --many CMD --runlog CMD
-               [--statelog CMD] [--report CMD] [--access CMD] [--files N] [--reports N]
-               [--accesses N] [--keep DIR] [--patience SECONDS]
+               [--statelog CMD] [--report CMD] [--access CMD] [--memlog CMD] [--files N]
+               [--reports N] [--accesses N] [--memlogs N] [--keep DIR] [--patience SECONDS]
   twin selftest --seed N --cases N    tells wrong twins from the right one
   twin case --seed N --number N DIR   writes the files of one generated case
   twin case-logs --seed N --number N DIR
                                       writes the files of one generated folder of the report
   twin case-queries --seed N --number N DIR
                                       writes the files of one generated folder of access queries
+  twin case-memory --seed N --number N DIR
+                                      writes the files of one generated folder of a window
 ";
 
 /// Does what the arguments ask for. Answers whether all is well.
@@ -65,6 +71,9 @@ pub fn obey(words: &[String]) -> Result<bool, String> {
         ("access", []) => print_answers(".", Flaw::None),
         ("access", [folder]) => print_answers(folder, Flaw::None),
         ("access", ["--wrong", name]) => print_answers(".", Flaw::named(&Flaw::WRONG_ACCESSES, name)?),
+        ("memlog", []) => print_window(".", Flaw::None),
+        ("memlog", [folder]) => print_window(folder, Flaw::None),
+        ("memlog", ["--wrong", name]) => print_window(".", Flaw::named(&Flaw::WRONG_MEMORIES, name)?),
         _ => obey_other(command, rest, &texts),
     }
 }
@@ -83,6 +92,7 @@ fn obey_other(command: &str, rest: &[String], texts: &[&str]) -> Result<bool, St
         ("case", [.., folder]) => write_case(&rest[..rest.len() - 1], Path::new(folder)),
         ("case-logs", [.., folder]) => write_case_logs(&rest[..rest.len() - 1], Path::new(folder)),
         ("case-queries", [.., folder]) => write_case_queries(&rest[..rest.len() - 1], Path::new(folder)),
+        ("case-memory", [.., folder]) => write_case_memory(&rest[..rest.len() - 1], Path::new(folder)),
         ("help" | "--help", _) => Ok(say(USAGE.as_bytes(), true)),
         (known, _) if TAKES_FIXED_ARGUMENTS.contains(&known) => {
             Err(format!("'{command}' has other arguments"))
@@ -92,12 +102,13 @@ fn obey_other(command: &str, rest: &[String], texts: &[&str]) -> Result<bool, St
 }
 
 /// The commands that can be given too many arguments or too few.
-const TAKES_FIXED_ARGUMENTS: [&str; 14] = [
+const TAKES_FIXED_ARGUMENTS: [&str; 16] = [
     "run",
     "state",
     "many",
     "report",
     "access",
+    "memlog",
     "pack",
     "unpack",
     "pack-logs",
@@ -107,6 +118,7 @@ const TAKES_FIXED_ARGUMENTS: [&str; 14] = [
     "case",
     "case-logs",
     "case-queries",
+    "case-memory",
 ];
 
 /// Prints; an output that cannot be written ends the work quietly.
@@ -129,6 +141,10 @@ fn print_answers(folder: &str, flaw: Flaw) -> Result<bool, String> {
     Ok(say(&AccessFolder::read(Path::new(folder)).answers(flaw), true))
 }
 
+fn print_window(folder: &str, flaw: Flaw) -> Result<bool, String> {
+    Ok(say(&MemoryFolder::read(Path::new(folder)).text(flaw), true))
+}
+
 fn answer_standard_input(flaw: Flaw) -> Result<bool, String> {
     let mut input = BufReader::new(io::stdin().lock());
     let mut output = BufWriter::with_capacity(1 << 16, io::stdout().lock());
@@ -136,9 +152,9 @@ fn answer_standard_input(flaw: Flaw) -> Result<bool, String> {
     Ok(true)
 }
 
-const COMPARE_OPTIONS: [&str; 12] = [
-    "seed", "cases", "many", "runlog", "statelog", "report", "access", "files", "reports", "accesses",
-    "keep", "patience",
+const COMPARE_OPTIONS: [&str; 14] = [
+    "seed", "cases", "many", "runlog", "statelog", "report", "access", "memlog", "files", "reports",
+    "accesses", "memlogs", "keep", "patience",
 ];
 
 fn run_compare(words: &[String]) -> Result<bool, String> {
@@ -153,6 +169,7 @@ fn run_compare(words: &[String]) -> Result<bool, String> {
         many: CommandLine::parse(options.needed("many")?, patience)?,
         report: report_plan(&options, patience)?,
         access: access_plan(&options, patience)?,
+        memory: memory_plan(&options, patience)?,
         keep,
     };
     let (text, well) = compare(&plan);
@@ -180,6 +197,12 @@ fn access_plan(options: &Options, patience: u64) -> Result<Option<AccessPlan>, S
     let folders = options.number("accesses", 400)? as usize;
     let plan = |text| Ok(AccessPlan { command: CommandLine::parse(text, patience)?, folders });
     options.text("access").map(plan).transpose()
+}
+
+fn memory_plan(options: &Options, patience: u64) -> Result<Option<MemoryPlan>, String> {
+    let folders = options.number("memlogs", 400)? as usize;
+    let plan = |text| Ok(MemoryPlan { command: CommandLine::parse(text, patience)?, folders });
+    options.text("memlog").map(plan).transpose()
 }
 
 fn run_selftest(words: &[String]) -> Result<bool, String> {

@@ -8,6 +8,7 @@ use crate::command_line::options::Options;
 use crate::core::flaw::Flaw;
 use crate::generate::access::generated_access;
 use crate::generate::case::CaseMaker;
+use crate::generate::memories::generated_memory;
 use crate::generate::report::generated_folder;
 use crate::readable_text::parse::{access_folder_of, case_of, report_folder_of, TextError};
 use crate::readable_text::print::{access_folder_text, report_folder_text, text_of};
@@ -121,6 +122,19 @@ pub fn write_case_queries(words: &[String], folder: &Path) -> Result<bool, Strin
     write_queries(folder, &files)?;
     let written = fs::write(folder.join("run.txt"), access_folder_text(&files))
         .and_then(|()| fs::write(folder.join("expected-access"), files.answers(Flaw::None)));
+    written.map_err(|error| format!("cannot write into {}: {error}", folder.display()))?;
+    Ok(true)
+}
+
+/// The files of a generated folder, the text of its run, and what `memlog` has to print for them.
+pub fn write_case_memory(words: &[String], folder: &Path) -> Result<bool, String> {
+    let options = Options::parse(words, &["seed", "number"])?;
+    let (seed, number) = (options.needed_number("seed")?, options.needed_number("number")?);
+    let files = generated_memory(seed, number as usize);
+    let written = files
+        .write_into(folder)
+        .and_then(|()| fs::write(folder.join("run.txt"), text_of(&files.case())))
+        .and_then(|()| fs::write(folder.join("expected-memory"), files.text(Flaw::None)));
     written.map_err(|error| format!("cannot write into {}: {error}", folder.display()))?;
     Ok(true)
 }

@@ -1,5 +1,5 @@
-//! A difference between two texts of a run, a report or access queries: where it is, how it is shown, and its
-//! files.
+//! A difference between two texts of a run, a report, access queries or a window: where it is, how it is shown,
+//! and its files.
 
 use std::fs;
 use std::io;
@@ -9,6 +9,7 @@ use crate::access::folder::AccessFolder;
 use crate::access::query::queries_of;
 use crate::core::flaw::Flaw;
 use crate::log::read::{read_record, Record};
+use crate::memlog::folder::MemoryFolder;
 use crate::readable_text::print::{access_folder_text, event_line, query_line, text_of};
 use crate::report::folder::ReportFolder;
 use crate::run::frames::Case;
@@ -19,6 +20,7 @@ pub enum Subject {
     Run(Case),
     Report(ReportFolder),
     Access(AccessFolder),
+    Memory(MemoryFolder),
 }
 
 /// Two texts that should have been the same.
@@ -125,6 +127,7 @@ impl Difference {
                 text + &shown_whole("expected", &self.expected) + &shown_whole("got", &self.got)
             }
             Subject::Access(folder) => text + &self.shown_query(folder.query_bytes()),
+            Subject::Memory(folder) => text + &self.shown_events(folder.log_bytes()),
         }
     }
 
@@ -169,6 +172,10 @@ impl Difference {
             Subject::Access(files) => {
                 files.write_into(&folder)?;
                 fs::write(folder.join("run.txt"), access_folder_text(files))?;
+            }
+            Subject::Memory(files) => {
+                files.write_into(&folder)?;
+                fs::write(folder.join("run.txt"), text_of(&files.case()))?;
             }
             Subject::Run(case) => {
                 fs::create_dir_all(&folder)?;

@@ -4,6 +4,7 @@ pub mod accesses;
 pub mod child;
 pub mod difference;
 pub mod files;
+pub mod memories;
 pub mod reports;
 pub mod selftest;
 pub mod stream;

@@ -4,6 +4,7 @@ use crate::compare::difference::{first_parting, Parting};
 use crate::core::flaw::{Flaw, Wrong};
 use crate::generate::access::generated_access;
 use crate::generate::case::CaseMaker;
+use crate::generate::memories::generated_memory;
 use crate::generate::report::generated_folder;
 use crate::run::text::many_text;
 
@@ -12,6 +13,9 @@ const CASES_TO_A_REPORT: usize = 10;
 
 /// So many cases of runs go with one folder of access queries, which costs little.
 const CASES_TO_AN_ACCESS: usize = 2;
+
+/// So many cases of runs go with one folder of a window.
+const CASES_TO_A_MEMORY: usize = 2;
 
 /// Where a wrong twin first gave itself away: the case, and the place in its text.
 type Discovery = Option<(usize, Parting)>;
@@ -62,11 +66,19 @@ fn discover_accesses(seed: u64, folders: usize) -> Vec<Discovery> {
     })
 }
 
-/// Tries every wrong twin: those of runs on so many cases, those of reports and of access queries on fewer
-/// folders. Answers the text for the reader, and whether all were told apart.
+fn discover_memories(seed: u64, folders: usize) -> Vec<Discovery> {
+    discover(&Flaw::WRONG_MEMORIES, folders, |number| {
+        let folder = generated_memory(seed, number);
+        move |flaw| folder.text(flaw)
+    })
+}
+
+/// Tries every wrong twin: those of runs on so many cases, those of reports, of access queries and of the window
+/// on fewer folders. Answers the text for the reader, and whether all were told apart.
 pub fn selftest(seed: u64, cases: usize) -> (String, bool) {
     let reports = cases.div_ceil(CASES_TO_A_REPORT);
     let accesses = cases.div_ceil(CASES_TO_AN_ACCESS);
+    let memories = cases.div_ceil(CASES_TO_A_MEMORY);
     let tries = [
         tried(&Flaw::WRONG_RUNS, "", ("case", cases), discover_runs(seed, cases)),
         tried(&Flaw::WRONG_REPORTS, " of the report", ("folder", reports), discover_reports(seed, reports)),
@@ -76,10 +88,17 @@ pub fn selftest(seed: u64, cases: usize) -> (String, bool) {
             ("query folder", accesses),
             discover_accesses(seed, accesses),
         ),
+        tried(
+            &Flaw::WRONG_MEMORIES,
+            " of the window",
+            ("memory folder", memories),
+            discover_memories(seed, memories),
+        ),
     ];
     let mut text: String = tries.iter().map(|(text, _)| text.as_str()).collect();
     let told_apart: usize = tries.iter().map(|(_, told_apart)| told_apart).sum();
-    let all = Flaw::WRONG_RUNS.len() + Flaw::WRONG_REPORTS.len() + Flaw::WRONG_ACCESSES.len();
+    let of_folders = Flaw::WRONG_REPORTS.len() + Flaw::WRONG_ACCESSES.len() + Flaw::WRONG_MEMORIES.len();
+    let all = Flaw::WRONG_RUNS.len() + of_folders;
     text += &format!("twin: {told_apart} of {all} wrong twins told apart\n");
     (text, told_apart == all)
 }

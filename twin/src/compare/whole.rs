@@ -1,15 +1,17 @@
-//! The whole comparison: batches through `many`, torn streams, files, reports, access queries, and the count
-//! of what was reached.
+//! The whole comparison: batches through `many`, torn streams, files, reports, access queries, windows, and the
+//! count of what was reached.
 
 use std::path::PathBuf;
 
 use crate::compare::accesses::{compare_accesses, AccessPlan};
 use crate::compare::child::CommandLine;
 use crate::compare::files::{compare_files, special_files, FileCase, FileProgram, Workplace};
+use crate::compare::memories::{compare_memories, MemoryPlan};
 use crate::compare::reports::{compare_reports, ReportPlan};
 use crate::compare::stream::{compare_batch, compare_stream, torn_streams, Trouble};
 use crate::coverage::access::AccessCoverage;
 use crate::coverage::cases::{never_reached, Coverage};
+use crate::coverage::memories::MemoryCoverage;
 use crate::coverage::reports::ReportCoverage;
 use crate::generate::case::CaseMaker;
 use crate::run::frames::Case;
@@ -27,6 +29,7 @@ pub struct Plan {
     pub file_programs: Vec<FileProgram>,
     pub report: Option<ReportPlan>,
     pub access: Option<AccessPlan>,
+    pub memory: Option<MemoryPlan>,
     pub keep: PathBuf,
 }
 
@@ -34,12 +37,14 @@ pub struct Plan {
 struct FolderCoverage {
     reports: Option<ReportCoverage>,
     accesses: Option<AccessCoverage>,
+    memories: Option<MemoryCoverage>,
 }
 
 impl FolderCoverage {
     fn points(&self) -> Vec<(String, u64)> {
         let mut points = self.reports.as_ref().map(ReportCoverage::points).unwrap_or_default();
         points.extend(self.accesses.as_ref().map(AccessCoverage::points).unwrap_or_default());
+        points.extend(self.memories.as_ref().map(MemoryCoverage::points).unwrap_or_default());
         points
     }
 
@@ -51,6 +56,9 @@ impl FolderCoverage {
         }
         if let Some(AccessCoverage { folders, queries, .. }) = &self.accesses {
             text += &format!("access: {folders} folders, {queries} queries\n");
+        }
+        if let Some(MemoryCoverage { folders, copies, .. }) = &self.memories {
+            text += &format!("memlog: {folders} folders, {copies} copies that changed bytes\n");
         }
         text
     }
@@ -90,7 +98,7 @@ fn compare_streams(plan: &Plan, maker: &CaseMaker, coverage: &mut Coverage) -> R
     Ok(())
 }
 
-/// The programs that read files. Answers what the reports and the access queries reached.
+/// The programs that read files. Answers what the reports, the access queries and the windows reached.
 fn compare_folders(plan: &Plan, maker: &CaseMaker) -> Result<FolderCoverage, Trouble> {
     let place = Workplace::new();
     let place =
@@ -99,7 +107,9 @@ fn compare_folders(plan: &Plan, maker: &CaseMaker) -> Result<FolderCoverage, Tro
     let reports = plan.report.as_ref().map(|report| compare_reports(report, &place, plan.seed));
     let reports = reports.transpose()?;
     let accesses = plan.access.as_ref().map(|access| compare_accesses(access, &place, plan.seed));
-    Ok(FolderCoverage { reports, accesses: accesses.transpose()? })
+    let accesses = accesses.transpose()?;
+    let memories = plan.memory.as_ref().map(|memory| compare_memories(memory, &place, plan.seed));
+    Ok(FolderCoverage { reports, accesses, memories: memories.transpose()? })
 }
 
 fn compare_file_runs(plan: &Plan, maker: &CaseMaker, place: &Workplace) -> Result<(), Trouble> {

@@ -4,6 +4,7 @@ use crate::core::config::{Config, Slot, VmPlace, SPARE};
 use crate::core::event::Event;
 use crate::core::flaw::Flaw;
 use crate::core::limits::{MAX_LOG_BYTES, MAX_QUEUE, MAX_SLOTS, MAX_VMS};
+use crate::edges::copies::copy_cases;
 use crate::edges::counts::{counts_cleared, counts_of_one_vm, counts_up_and_down};
 use crate::edges::regions::{longest_config, region_cases};
 use crate::edges::removals::{removals, removals_of_none};
@@ -12,7 +13,7 @@ use crate::generate::log::LogMaker;
 use crate::generate::random::Random;
 use crate::image::read::{KIND_CORE, KIND_END, KIND_SLOT, KIND_VM};
 use crate::image::write::image_bytes;
-use crate::log::read::{event_body_length, KIND_FAULT, KIND_START};
+use crate::log::read::{event_body_length, EVENT_KINDS, KIND_START};
 use crate::log::write::log_of;
 use crate::run::frames::{Case, MAX_PART};
 
@@ -47,6 +48,7 @@ pub fn edge_cases(random: &mut Random) -> Vec<Case> {
     cases.extend(FAULTS.into_iter().flat_map(|fault| [fault; 6]).map(|fault| refused(random, fault)));
     cases.extend(full_images(random));
     cases.extend(image_edges());
+    cases.extend(copy_cases());
     cases.extend(cut_logs());
     cases.extend([long_slot(), many_ticks()]);
     cases.extend(long_logs(random));
@@ -94,7 +96,7 @@ fn wide_slots() -> Vec<Event> {
 }
 
 /// One VM, and a table that is all its own.
-fn lone(queue_size: u8) -> Config {
+pub fn lone(queue_size: u8) -> Config {
     let mut config = small(1, queue_size);
     config.slot_count = 1;
     config.slots[1] = Slot::default();
@@ -327,20 +329,25 @@ fn cut_logs() -> Vec<Case> {
     cut_tails().into_iter().map(with_tail).collect()
 }
 
-/// What cannot be read: every event kind with every length of body that is too short, and unknown kinds.
+/// What cannot be read: every event kind with every length of body that is too short, but of the long record of
+/// a Copy only those about the ends of its parts (E13), and unknown kinds.
 pub fn cut_tails() -> Vec<Vec<u8>> {
     let mut tails = Vec::new();
-    for kind in KIND_START..=KIND_FAULT {
-        for length in 0..event_body_length(kind).unwrap_or(0) {
+    for kind in EVENT_KINDS {
+        let whole = event_body_length(kind).unwrap_or(0);
+        let tried = |length: &usize| *length < 10 || [0, 11].contains(&((length - 5) % 12));
+        for length in (0..whole).filter(tried) {
             let mut tail = vec![kind];
             tail.extend(vec![3; length]);
             tails.push(tail);
         }
     }
-    for kind in [0x00, 0x0f, 0x19, 0x1a, 0x1b, 0x1c, 0x80, 0xff] {
+    for kind in [0x00, 0x0f, 0x19, 0x1b, 0x1c, 0x80, 0xff] {
         tails.push(vec![kind, 0x10, 0x10, 0x10, 0x10, 0x10]);
         tails.push(vec![kind]);
     }
+    // As long as the record of a Copy, whose kind is the next but one (E13).
+    tails.push([&[0x19][..], &[0; 101]].concat());
     tails
 }
 

@@ -2,7 +2,9 @@
 
 pub mod access;
 pub mod cases;
+pub mod copies;
 pub mod counts;
+pub mod memories;
 pub mod regions;
 pub mod removals;
 pub mod reports;

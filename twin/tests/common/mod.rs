@@ -1,4 +1,5 @@
-//! What several tests share: the worked example, small configurations, and the command line.
+//! What several tests share: the worked example, small configurations, the vectors of copies, and the command
+//! line.
 #![allow(dead_code)]
 
 use std::fs;
@@ -6,7 +7,7 @@ use std::path::{Path, PathBuf};
 use std::process::Command;
 
 use twin::core::config::{Config, Slot, VmPlace, SPARE};
-use twin::core::event::Event;
+use twin::core::event::{CopyRequest, Event, Extent};
 use twin::core::flaw::Flaw;
 use twin::core::limits::{MAX_LOG_BYTES, MAX_VMS};
 use twin::core::region::Region;
@@ -60,15 +61,42 @@ pub fn tick(address: u32) -> Event {
     Event::Tick { address }
 }
 
-/// The six kinds of events that remove entries, for a VM 0 that runs.
-pub const REMOVING: [Event; 6] = [
+/// The seven kinds of events that remove entries, for a VM 0 that runs.
+pub const REMOVING: [Event; 7] = [
     Event::Stop { vm: 0 },
     Event::Restart { vm: 0 },
     Event::Fault { code: 3, data: 0 },
     Event::Call { service: 3, argument: 0, next: 0x1020 },
     Event::Call { service: 2, argument: 32, next: 0x1020 },
     Event::Call { service: 5, argument: 0, next: 0x1020 },
+    Event::Copy(CopyRequest { count: 9, next: 0x1020, extents: [NO_EXTENT; 8] }),
 ];
+
+const NO_EXTENT: Extent = Extent { source: 0, destination: 0, length: 0 };
+
+pub fn extent(source: u32, destination: u32, length: u32) -> Extent {
+    Extent { source, destination, length }
+}
+
+/// A Copy of these extents, whose next address is that of P14 to P22.
+pub fn copy(extents: &[Extent]) -> Event {
+    Event::Copy(CopyRequest::of(0x1010, extents))
+}
+
+/// The same with another count.
+pub fn counted_copy(count: u8, extents: &[Extent]) -> Event {
+    Event::Copy(CopyRequest { count, ..CopyRequest::of(0x1010, extents) })
+}
+
+/// The configuration of P14 to P22.
+pub fn p14_config() -> Config {
+    with_regions(&[
+        region(0, 2, 0x4000_0000, 0x4000_007f),
+        region(0, 2, 0x4000_0080, 0x4000_017f),
+        region(0, 1, 0x4000_0180, 0x4000_01bf),
+        region(0, 2, 0x4000_01f0, 0x4000_04ff),
+    ])
+}
 
 /// The core that P12 and P13 begin with, as right or as wrong as asked for.
 pub fn p12_core(flaw: Flaw) -> Core {
@@ -82,13 +110,13 @@ pub fn p12_core(flaw: Flaw) -> Core {
     core
 }
 
-/// An event of each of the nine kinds, for VM 0 or the VM that runs.
-pub fn every_kind() -> [Event; 9] {
+/// An event of each of the ten kinds, for VM 0 or the VM that runs.
+pub fn every_kind() -> [Event; 10] {
     let vm = 0;
     let (stop, shutdown) = (Event::Stop { vm }, Event::Shutdown { vm });
     let (restart, extra) = (Event::Restart { vm }, Event::Extra { vm });
     let fault = Event::Fault { code: 3, data: 0 };
-    [Event::Start, tick(5), stop, shutdown, restart, extra, call(0, 0, 0), write(8, 1), fault]
+    [Event::Start, tick(5), stop, shutdown, restart, extra, call(0, 0, 0), write(8, 1), fault, copy(&[])]
 }
 
 /// How many entries each VM has, counted place by place.

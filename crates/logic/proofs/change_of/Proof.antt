@@ -103,6 +103,16 @@ returns-9 : tie.Need-returns-9
 unfolding changeFrom
 returns-9 c = rw (c .before .before .e3 .given .1) (c .failing .ensures)
 
+enum-told-7 : tie.Need-enum-told-7
+enum-told-7 c = search needs
+
+renewed-requires-4 : tie.Need-renewed-requires-4
+renewed-requires-4 c κs = search needs
+
+returns-10 : tie.Need-returns-10
+unfolding changeFrom
+returns-10 c = rw (c .before .enum-told7 .given .1) (c .renewed4 .ensures)
+
 pub change-of-spec : {M : Type 1} → statement M
 change-of-spec =
     tie.close
@@ -128,6 +138,8 @@ change-of-spec =
     renewed-requires-3
     enum-known-e-3
     failing-requires
+    enum-told-7
+    renewed-requires-4
     returns
     returns-2
     returns-3
@@ -136,4 +148,5 @@ change-of-spec =
     returns-6
     returns-7
     returns-8
-    returns-9)
+    returns-9
+    returns-10)

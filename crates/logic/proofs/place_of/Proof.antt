@@ -57,6 +57,12 @@ returns-8 c = rw (c .enum-told4 .given .1)
 returns-9 : tie.Need-returns-9
 returns-9 c = rw (c .enum-told5 .given .1)
 
+enum-told-6 : tie.Need-enum-told-6
+enum-told-6 c = search needs
+
+returns-10 : tie.Need-returns-10
+returns-10 c = rw (c .enum-told6 .given .1)
+
 pub place-of-spec : {M : Type 1} → statement M
 place-of-spec =
     tie.close
@@ -70,6 +76,7 @@ place-of-spec =
     enum-told-3
     enum-told-4
     enum-told-5
+    enum-told-6
     returns
     returns-2
     returns-3
@@ -78,4 +85,5 @@ place-of-spec =
     returns-6
     returns-7
     returns-8
-    returns-9)
+    returns-9
+    returns-10)

@@ -84,6 +84,15 @@ returns-8 c = rw (c .before .before .e5 .given .1) (c .of-write .ensures)
 returns-9 : tie.Need-returns-9
 returns-9 c = rw (c .before .before .e6 .given .1) (c .of-fault .ensures)
 
+enum-told-4 : tie.Need-enum-told-4
+enum-told-4 c = search needs
+
+of-running-requires-2 : tie.Need-of-running-requires-2
+of-running-requires-2 c κs = search needs
+
+returns-10 : tie.Need-returns-10
+returns-10 c = rw (c .before .enum-told4 .given .1) (c .of-running2 .ensures)
+
 pub row-of-spec : {M : Type 1} → statement M
 row-of-spec =
     tie.close
@@ -106,6 +115,8 @@ row-of-spec =
     of-write-requires
     enum-known-e-6
     of-fault-requires
+    enum-told-4
+    of-running-requires-2
     returns
     returns-2
     returns-3
@@ -114,4 +125,5 @@ row-of-spec =
     returns-6
     returns-7
     returns-8
-    returns-9)
+    returns-9
+    returns-10)

@@ -1,4 +1,4 @@
--- Each kind of event by its own function; all but Start and Tick by one (`other-arm`).
+-- Each kind of event by its own function; all but Start, Tick and Copy by one (`other-arm`).
 use borrow.Author.Needs.{needs}
 use mathlib.Core.Path.{ap, _∙_}
 use Rattle.core.proofs.Core.after.Statement.{statement}
@@ -18,6 +18,12 @@ enum-known-e c = search needs
 tick-after-requires : tie.Need-tick-after-requires
 tick-after-requires c κs = search needs
 
+enum-known-e-2 : tie.Need-enum-known-e-2
+enum-known-e-2 c = search needs
+
+copy-after-requires : tie.Need-copy-after-requires
+copy-after-requires c κs = search needs
+
 change-after-requires : tie.Need-change-after-requires
 change-after-requires c κs = search needs
 
@@ -28,7 +34,10 @@ returns-2 : tie.Need-returns-2
 returns-2 c = rw (c .before .before .e .given .1) (c .tick-after .ensures)
 
 returns-3 : tie.Need-returns-3
-returns-3 c = c .change-after .ensures ∙ ap partsOf (other-arm _ _ (c .before .match .keys3))
+returns-3 c = rw (c .before .before .e2 .given .1) (c .copy-after .ensures)
+
+returns-4 : tie.Need-returns-4
+returns-4 c = c .change-after .ensures ∙ ap partsOf (other-arm _ _ (c .before .match .keys4))
 
 pub after-spec : {M : Type 1} → statement M
 after-spec =
@@ -38,7 +47,10 @@ after-spec =
     start-after-requires
     enum-known-e
     tick-after-requires
+    enum-known-e-2
+    copy-after-requires
     change-after-requires
     returns
     returns-2
-    returns-3)
+    returns-3
+    returns-4)
