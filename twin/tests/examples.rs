@@ -10,12 +10,13 @@ use twin::access::folder::AccessFolder;
 use twin::core::flaw::Flaw;
 use twin::core::limits::MAX_VMS;
 use twin::image::read::read_image;
+use twin::memlog::folder::MemoryFolder;
 use twin::readable_text::parse::{access_folder_of, case_of, report_folder_of};
 use twin::report::folder::ReportFolder;
 use twin::run::frames::Case;
 use twin::run::text::{run_text, Detail};
 
-const NAMES: [&str; 5] = ["worked", "stopped-model", "extra-time", "thrown-away", "refused-image"];
+const NAMES: [&str; 6] = ["worked", "stopped-model", "extra-time", "thrown-away", "refused-image", "wheels"];
 
 /// The examples that hold the whole states of their run too.
 const NAMES_WITH_STATES: [&str; 1] = ["thrown-away"];
@@ -134,4 +135,43 @@ fn the_files_of_the_regions_make_their_expected_answers() {
     let told: Vec<&str> = queries.filter_map(|line| line.split(['#', ':']).nth(1)).map(str::trim).collect();
     assert_eq!(told, answers.lines().collect::<Vec<_>>());
     assert_eq!((told.len(), told.iter().filter(|answer| **answer == "yes").count()), (15, 6));
+}
+
+/// The four wheels, as the memory of their example holds them at first.
+const WHEELS: [[u8; 16]; 4] =
+    [*b"front left  3100", *b"front right 3050", *b"rear left   2900", *b"rear right  2875"];
+
+/// The bytes of a window by the lines of its rows, those left out zero.
+fn window_of(text: &str) -> Vec<u8> {
+    let mut bytes = vec![0; 16_384];
+    for line in text.lines().filter(|line| line.starts_with("memory ")) {
+        let offset = usize::from_str_radix(&line[7..15], 16).expect("an address") - 0x4000_0000;
+        for index in 0..32 {
+            let digits = &line[16 + 2 * index..18 + 2 * index];
+            bytes[offset + index] = u8::from_str_radix(digits, 16).expect("a byte");
+        }
+    }
+    bytes
+}
+
+/// D34 to D36, L6, N26, N27, C11: the window of the wheels, as the files make it and as their text tells it.
+#[test]
+fn the_files_of_the_wheels_make_their_expected_memory() {
+    let memory = file("wheels", "memory.bin");
+    let mut first = vec![0; 0x340];
+    for (wheel, bytes) in WHEELS.iter().enumerate() {
+        first[0x100 * wheel..][..16].copy_from_slice(bytes);
+    }
+    assert_eq!(memory, first);
+    let Case { image, log } = files("wheels");
+    let text = String::from_utf8(MemoryFolder::of(&image, &log, &memory).text(Flaw::None)).expect("ascii");
+    assert_eq!(text.as_bytes(), file("wheels", "expected-memory"));
+    assert!(text.as_bytes().starts_with(&file("wheels", "expected")));
+    let window = window_of(&text);
+    assert_eq!(window[..24], *b"front lefront left  3100", "moved on over itself");
+    assert_eq!(window[0x1000..0x1040], WHEELS.concat(), "as the first copy published them");
+    assert_eq!(window[0x2000..0x2040], WHEELS.concat(), "what the display took");
+    let lines: Vec<&str> = text.lines().collect();
+    assert_eq!(lines[2], "3 0 0 00001010 - 0 0 0");
+    assert_eq!([lines[4], lines[9], lines[13]], ["5 0 - - - 3 0 0", "10 5 - - - 0 0 0", "14 0 - - - 3 0 0"]);
 }

@@ -141,7 +141,8 @@ fn no_number_is_judged_or_shortened() {
         let masters =
             [Event::Stop { vm }, Event::Shutdown { vm }, Event::Restart { vm }, Event::Extra { vm }];
         let guests = [call(byte, most, most), write(byte, most), Event::Fault { code, data: most }];
-        let copied = Event::Copy(CopyRequest { count: byte, next: most, extents: [extent(most, most, most); 8] });
+        let copied =
+            Event::Copy(CopyRequest { count: byte, next: most, extents: [extent(most, most, most); 8] });
         for event in masters.into_iter().chain(guests).chain([copied]) {
             let log = log_of(&[event]);
             assert_eq!(log[1], byte);

@@ -412,9 +412,9 @@ fn m7_the_wrong_counts_are_those_of_their_mistakes() {
         assert_eq!(removed(flaw).to_vec(), kept_at(place), "{flaw:?}");
     }
     assert_eq!(removed(Flaw::RunningRestartKeepsCount).to_vec(), kept_at(1));
-    assert_eq!(removed(Flaw::RemovalLowersByOne), [[1, 1]; 6]);
-    assert_eq!(removed(Flaw::RemovalClearsAll), [[0, 0]; 6]);
-    assert_eq!(removed(Flaw::RemovalClearsLaterVms), [[0, 0]; 6]);
+    assert_eq!(removed(Flaw::RemovalLowersByOne), [[1, 1]; 7]);
+    assert_eq!(removed(Flaw::RemovalClearsAll), [[0, 0]; 7]);
+    assert_eq!(removed(Flaw::RemovalClearsLaterVms), [[0, 0]; 7]);
     let mut core = p12_core(Flaw::RemovalClearsRunning);
     core.apply(Event::Stop { vm: 1 });
     assert_eq!((pair(&core), core.state.queue.entries()), ([0, 1], &[0, 0][..]));

@@ -195,16 +195,17 @@ fn the_queue_says_how_many_entries_it_took_out() {
     assert_eq!((queue.remove(0), queue.entries()), (1, &[7][..]));
 }
 
-/// A8, P12, M6: the five wrong counts beside the right one.
+/// A8, P12, M6: the wrong counts beside the right one.
 #[test]
 fn the_wrong_counts_are_those_of_their_mistakes() {
     let told = |flaw| REMOVING.map(|event| p12_core(flaw).apply(event).removed);
-    assert_eq!(told(Flaw::None), [2; 6]);
-    assert_eq!(told(Flaw::RemovedIsWholeQueue), [3; 6]);
-    assert_eq!(told(Flaw::RemovedIsWhatIsLeft), [0; 6]);
-    assert_eq!(told(Flaw::RestartTellsNone), [2, 0, 2, 2, 2, 2]);
-    assert_eq!(told(Flaw::ServedIsRemoved), [2; 6]);
-    assert_eq!(told(Flaw::UnknownServiceTellsNone), [2, 2, 2, 2, 2, 0]);
+    assert_eq!(told(Flaw::None), [2; 7]);
+    assert_eq!(told(Flaw::RemovedIsWholeQueue), [3; 7]);
+    assert_eq!(told(Flaw::RemovedIsWhatIsLeft), [0; 7]);
+    assert_eq!(told(Flaw::RestartTellsNone), [2, 0, 2, 2, 2, 2, 2]);
+    assert_eq!(told(Flaw::ServedIsRemoved), [2; 7]);
+    assert_eq!(told(Flaw::UnknownServiceTellsNone), [2, 2, 2, 2, 2, 0, 2]);
+    assert_eq!(told(Flaw::CopyTellsNone), [2, 2, 2, 2, 2, 2, 0]);
     let mut core = p12_core(Flaw::ServedIsRemoved);
     let ticks = [(); 5].map(|()| core.apply(tick(0)).removed);
     assert_eq!(ticks, [0, 0, 1, 0, 0]);

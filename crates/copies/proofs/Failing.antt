@@ -6,11 +6,11 @@ use lib.ListN.{getD, length, take}
 use lib.Seq.{take-suc}
 use mathlib.Core.Bool.{Bool, false, true}
 use mathlib.Core.List.{List, [], _++_, _∷_}
-use mathlib.Core.Logic.{_≢_}
+use mathlib.Core.Logic.{inl, inr, _≢_, _⊎_}
 use mathlib.Core.Path.{ap, refl, sym, _∙_, _≡_}
 use native.Mathlib.Numerals.{add-one}
 use native.Mathlib.Omega.{arith}
-use Rattle.basis.proofs.Laws.{false-true}
+use Rattle.basis.proofs.Laws.{false-true, pick-case}
 use Rattle.basis.specs.Choice.{both, either, pick}
 use Rattle.copies.specs.Failing.{extentFailure, failed, fine, firstFailure, orElse}
 use Rattle.copies.specs.declared.Failure.{Failure}
@@ -46,7 +46,9 @@ module _ (query : ℕ → ℕ → ℕ → Bool) (w : Window) (x : Extent) (r : F
 pub fine-fits : (query : ℕ → ℕ → ℕ → Bool) (w : Window) (x : Extent) → extentFailure query w x .code ≡ 0 → fits w x ≡ true
 unfolding extentFailure fits
 fine-fits query w x e =
-    go (eqb (x .length) 0) (ltb 256 (x .length)) refl (query (x .source) (x .length) 1) (inside w (x .source) (x .length)) (query (x .destination) (x .length) 2) (inside w (x .destination) (x .length)) e
+    go (eqb (x .length) 0) (ltb 256 (x .length)) refl
+    (query (x .source) (x .length) 1) (inside w (x .source) (x .length))
+    (query (x .destination) (x .length) 2) (inside w (x .destination) (x .length)) e
   where
     go : (b c : Bool) → ltb 256 (x .length) ≡ c → (m s d t : Bool)
         → pick b fine (pick c (failed 7 (x .length)) (pick (both m s) (pick (both d t) fine (failed 3 (x .destination))) (failed 3 (x .source)))) .code ≡ 0
@@ -63,7 +65,9 @@ fine-fits query w x e =
 pub extent-clean : (query : ℕ → ℕ → ℕ → Bool) (w : Window) (x : Extent) → extentFailure query w x .code ≡ 0 → extentFailure query w x ≡ fine
 unfolding extentFailure
 extent-clean query w x e =
-    go (eqb (x .length) 0) (ltb 256 (x .length)) (both (query (x .source) (x .length) 1) (inside w (x .source) (x .length))) (both (query (x .destination) (x .length) 2) (inside w (x .destination) (x .length))) e
+    go (eqb (x .length) 0) (ltb 256 (x .length))
+    (both (query (x .source) (x .length) 1) (inside w (x .source) (x .length)))
+    (both (query (x .destination) (x .length) 2) (inside w (x .destination) (x .length))) e
   where
     go : (b c s t : Bool)
         → pick b fine (pick c (failed 7 (x .length)) (pick s (pick t fine (failed 3 (x .destination))) (failed 3 (x .source)))) .code ≡ 0
@@ -76,6 +80,7 @@ extent-clean query w x e =
 
 -- the extents in their order
 module _ (f : Extent → Failure) (clean : (x : Extent) → f x .code ≡ 0 → f x ≡ fine) where
+  -- one extent more
   first-append : (l : List Extent) (x : Extent) → firstFailure f (l ++ (x ∷ [])) ≡ orElse (firstFailure f l) (f x)
   unfolding firstFailure
   first-append [] x = by (eqb (f x .code) 0) refl
@@ -111,3 +116,34 @@ module _ (f : Extent → Failure) (clean : (x : Extent) → f x .code ≡ 0 → 
       by true g r e zero h i = eqb-true (f x .code) 0 g
       by true g r e (suc k) h i = r k e (omega arith) (omega arith)
       by false g r e k h i = false-true (sym g ∙ eq-eqb (f x .code) 0 e)
+
+-- what holds of no failure and of the failure of each extent holds of the first
+pub first-holds : (P : Failure → Type 0) (f : Extent → Failure) → P fine → ((x : Extent) → P (f x)) → (xs : List Extent) → P (firstFailure f xs)
+unfolding firstFailure
+first-holds P f p q [] = p
+first-holds P f p q (x ∷ xs) = pick-case P (eqb (f x .code) 0) (firstFailure f xs) (f x) (λ e. first-holds P f p q xs) (λ e. q x)
+
+-- what judges each extent alike tells the same first failure
+pub first-same : (f g : Extent → Failure) → ((x : Extent) → f x ≡ g x) → (xs : List Extent) → firstFailure f xs ≡ firstFailure g xs
+unfolding firstFailure
+first-same f g e [] = refl
+first-same f g e (x ∷ xs) = rw (e x, first-same f g e xs)
+
+-- an extent is judged by what its VM may read and write
+pub extent-same : (f g : ℕ → ℕ → ℕ → Bool) → ((a n : ℕ) → f a n 1 ≡ g a n 1) → ((a n : ℕ) → f a n 2 ≡ g a n 2) → (w : Window) (x : Extent)
+    → extentFailure f w x ≡ extentFailure g w x
+unfolding extentFailure
+extent-same f g r s w x = rw (r (x .source) (x .length), s (x .destination) (x .length))
+
+-- A5: the codes of a Copy, no failure with them
+abbrev pub Known : Failure → Type 0
+Known r = (r .code ≡ 0) ⊎ ((r .code ≡ 3) ⊎ ((r .code ≡ 6) ⊎ (r .code ≡ 7)))
+
+pub extent-known : (query : ℕ → ℕ → ℕ → Bool) (w : Window) (x : Extent) → Known (extentFailure query w x)
+unfolding extentFailure
+extent-known query w x =
+    pick-case Known (eqb (x .length) 0) _ _ (λ e. inl refl)
+    (λ e. pick-case Known (ltb 256 (x .length)) _ _ (λ e. inr (inr (inr refl)))
+    (λ e. pick-case Known (both (query (x .source) (x .length) 1) (inside w (x .source) (x .length))) _ _
+    (λ e. pick-case Known (both (query (x .destination) (x .length) 2) (inside w (x .destination) (x .length))) _ _ (λ e. inl refl) (λ e. inr (inl refl)))
+    (λ e. inr (inl refl))))

@@ -69,7 +69,18 @@ fn extent_failure(
         return Failure::told(7, n);
     }
     let way = Regions::READ;
-    if reaches(count, holders, permissions, starts, lasts, v, w, from, n, way) {
+    if reaches(
+        count,
+        holders,
+        permissions,
+        starts,
+        lasts,
+        v,
+        w,
+        from,
+        n,
+        way,
+    ) {
         let way = Regions::WRITE;
         if reaches(count, holders, permissions, starts, lasts, v, w, to, n, way) {
             return Failure::told(0, 0);

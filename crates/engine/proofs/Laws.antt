@@ -14,12 +14,14 @@ use Rattle.bank.specs.Bank.{vmsOf}
 use Rattle.basis.specs.Choice.{pick}
 use Rattle.basis.specs.Nobody.{nobody}
 use Rattle.change.specs.Answers.{noNotice, quietly}
-use Rattle.change.specs.Changes.{tickingFrom}
+use Rattle.change.specs.Changes.{copyingFrom, tickingFrom}
 use Rattle.change.specs.declared.Answer.{Answer}
 use Rattle.change.specs.declared.Change.{Change}
 use Rattle.config.specs.Sizes.{isSpare}
 use Rattle.config.specs.declared.Config.{Config}
-use Rattle.core.proofs.Inner.{change-place, not-1, plain, row-is, tick-law, whole}
+use Rattle.copies.specs.Failing.{copyFailure, may}
+use Rattle.copies.specs.declared.Failure.{Failure}
+use Rattle.core.proofs.Inner.{change-place, copy-law, not-1, plain, row-is, tick-law, whole}
 use Rattle.core.specs.Changes.{changedBy}
 use Rattle.core.specs.Events.{done, innerOf, startCore}
 use Rattle.core.specs.Parts.{changeAt}
@@ -31,22 +33,23 @@ use Rattle.engine.specs.declared.Counts.{Counts}
 use Rattle.engine.specs.declared.Moved.{Moved}
 use Rattle.engine.specs.declared.Stand.{Stand}
 use Rattle.event.proofs.Event.{the-type}
-use Rattle.event.specs.Kinds.{isStart, isTick}
-use Rattle.event.specs.declared.Event.the-variants.{Call, Extra, Fault, Restart, Shutdown, Start, Stop, Tick, Write}
+use Rattle.event.specs.Kinds.{isCopy, isStart, isTick}
+use Rattle.event.specs.declared.Event.the-variants.{Call, Copy, Extra, Fault, Restart, Shutdown, Start, Stop, Tick, Write}
 use Rattle.event.specs.declared.Event.{Event}
-use Rattle.guest.specs.Record.{fresh, isReady}
+use Rattle.guest.specs.Record.{fresh, isReady, savedAt}
 use Rattle.guest.specs.declared.Vm.{Vm}
 use Rattle.logic.specs.Changing.{changeFrom, placeFrom}
 use Rattle.logic.specs.Rows.{rowFrom}
 use Rattle.queue.specs.Entries.{served}
 use Rattle.queue.specs.declared.Queue.{Queue}
 use Rattle.queue.specs.declared.Served.{Served}
-use Rattle.regions.specs.declared.Regions.{Regions}
 use Rattle.table.specs.Position.{nextClock, startedClock}
 use Rattle.table.specs.declared.Clock.{Clock}
 use Rattle.vms.specs.Records.{agedAll, startedAll}
 use Rattle.vms.specs.Tick.{entering, passed, runnerOf, saving, turn, turnBy}
 use Rattle.vms.specs.declared.Turn.{Turn}
+use Rattle.window.specs.declared.Pieces.{Pieces}
+use Rattle.window.specs.declared.Window.{Window}
 
 -- ---- refused, or done
 
@@ -78,23 +81,24 @@ module _ (g : Config) (standings words : List ℕ) (p : Stand) (e : Event) (i n 
 
 -- ---- a change of one VM
 
-about-other : (e : Event) → aboutVm e ≡ true → (isTick e ≡ false) × (isStart e ≡ false)
+about-other : (e : Event) → aboutVm e ≡ true → (isTick e ≡ false) × (isStart e ≡ false) × (isCopy e ≡ false)
 about-other Start h = absurd (let z : _≡_ {A = ℕ} 0 1 = cc in omega arith)
 about-other (Tick a) h = absurd (let z : _≡_ {A = ℕ} 0 1 = cc in omega arith)
-about-other (Stop v) h = (refl, refl)
-about-other (Shutdown v) h = (refl, refl)
-about-other (Restart v) h = (refl, refl)
-about-other (Extra v) h = (refl, refl)
-about-other (Call s n a) h = (refl, refl)
-about-other (Write o x) h = (refl, refl)
-about-other (Fault k d) h = (refl, refl)
+about-other (Stop v) h = (refl, refl, refl)
+about-other (Shutdown v) h = (refl, refl, refl)
+about-other (Restart v) h = (refl, refl, refl)
+about-other (Extra v) h = (refl, refl, refl)
+about-other (Call s n a) h = (refl, refl, refl)
+about-other (Write o x) h = (refl, refl, refl)
+about-other (Fault k d) h = (refl, refl, refl)
+about-other (Copy p w) h = absurd (let z : _≡_ {A = ℕ} 0 1 = cc in omega arith)
 
 pub change-does : (g : Config) (standings words standings′ words′ : List ℕ) (p : Stand) (e : Event) (m : Moved) (i n h : ℕ) (v : Vm) (d : Change)
     → aboutVm e ≡ true → i ≡ placeFrom e (p .running) → v ≡ getD (vmsOf standings words) i fresh → n ≡ getD (g .entries) i 0 → h ≡ getD (g .handlers) i 0
     → d ≡ changeFrom e i v (p .running) (p .queue) (leb (g .room) (p .queue .len)) 0 n h
     → Settles standings words standings′ words′ (p .clock) i d m → Does g standings words standings′ words′ p e m
 change-does g standings words standings′ words′ p e m i n h v d about at hv hn hh hd w =
-    record { same = here ∙ ap (λ (k : ℕ). changedBy (coreOf g standings words p) (changeAt (coreOf g standings words p) e k)) at ∙ (let o = about-other e about in plain (coreOf g standings words p) e (o .0) (o .1)) }
+    record { same = here ∙ ap (λ (k : ℕ). changedBy (coreOf g standings words p) (changeAt (coreOf g standings words p) e k)) at ∙ (let o = about-other e about in plain (coreOf g standings words p) e (o .0) (o .1) (o .2)) }
   where
     dd : d ≡ changeAt (coreOf g standings words p) e i
     dd = hd ∙ rw (hv, hn, hh)
@@ -104,6 +108,22 @@ change-does g standings words standings′ words′ p e m i n h v d about at hv 
 
     here : leftBy g standings′ words′ m ≡ changedBy (coreOf g standings words p) (changeAt (coreOf g standings words p) e i)
     here = rw (w .moved, w .records) (rw (← dd, place))
+
+-- ---- Copy
+
+copy-config : (c : Core) (p : Pieces) (w : Window) → done c (Copy p w) .core .config ≡ c .config
+unfolding done
+copy-config c p w = refl
+
+pub copy-does : (g : Config) (standings words standings′ words′ : List ℕ) (p : Stand) (asked : Pieces) (w : Window) (m : Moved) (v saved : Vm) (f : Failure) (d : Change)
+    → v ≡ getD (vmsOf standings words) (p .running) fresh → f ≡ copyFailure (may (g .regions) (p .running)) w asked → saved ≡ savedAt (asked .next) v
+    → d ≡ copyingFrom (p .running) (p .queue) (p .running) saved (f .code) (f .detail)
+    → Settles standings words standings′ words′ (p .clock) (p .running) d m → Does g standings words standings′ words′ p (Copy asked w) m
+copy-does g standings words standings′ words′ p asked w m v saved f d hv hf hs hd t =
+    record { same = rw (t .moved) (whole (done c (Copy asked w)) g _ (copy-config c asked w) (copy-law c asked w v saved _ f d (vmsOf standings′ words′) _ hv hf hs hd (t .records) refl refl)) }
+  where
+    c : Core
+    c = coreOf g standings words p
 
 -- ---- Start
 
@@ -193,22 +213,22 @@ core-is c standings words p h k = rw (h, k)
 
 -- a step by a configuration's own parts is the event on it
 pub step-is : {g : Config} {k : Counts} {standings words standings′ words′ : List ℕ} {p : Stand} {e : Event} {m : Moved} → k ≡ countsOf g
-    → ((r : Regions) → Moves (configOf k (g .owners) (g .durations) (g .entries) (g .handlers) r) standings words standings′ words′ p e m) → leftBy g standings′ words′ m ≡ innerOf (coreOf g standings words p) e
-step-is {g} h w = rw h at (w (g .regions) .same)
+    → Moves (configOf k (g .owners) (g .durations) (g .entries) (g .handlers) (g .regions)) standings words standings′ words′ p e m → leftBy g standings′ words′ m ≡ innerOf (coreOf g standings words p) e
+step-is {g} h w = rw h at (w .same)
 
--- the arm of the seven events about a VM
-pub from-two : (n : ℕ) → (n ≡ 2) ⊎ ((n ≡ 3) ⊎ ((n ≡ 4) ⊎ ((n ≡ 5) ⊎ ((n ≡ 6) ⊎ ((n ≡ 7) ⊎ (n ≡ 8)))))) → 2 ≤ n
-from-two n (inl h) = omega arith
-from-two n (inr (inl h)) = omega arith
-from-two n (inr (inr (inl h))) = omega arith
-from-two n (inr (inr (inr (inl h)))) = omega arith
-from-two n (inr (inr (inr (inr (inl h))))) = omega arith
-from-two n (inr (inr (inr (inr (inr (inl h)))))) = omega arith
-from-two n (inr (inr (inr (inr (inr (inr h)))))) = omega arith
+-- the arm of the seven events about a VM that are no Copy
+pub from-two : (n : ℕ) → (n ≡ 2) ⊎ ((n ≡ 3) ⊎ ((n ≡ 4) ⊎ ((n ≡ 5) ⊎ ((n ≡ 6) ⊎ ((n ≡ 7) ⊎ (n ≡ 8)))))) → (2 ≤ n) × (n ≤ 8)
+from-two n (inl h) = (omega arith, omega arith)
+from-two n (inr (inl h)) = (omega arith, omega arith)
+from-two n (inr (inr (inl h))) = (omega arith, omega arith)
+from-two n (inr (inr (inr (inl h)))) = (omega arith, omega arith)
+from-two n (inr (inr (inr (inr (inl h))))) = (omega arith, omega arith)
+from-two n (inr (inr (inr (inr (inr (inl h)))))) = (omega arith, omega arith)
+from-two n (inr (inr (inr (inr (inr (inr h)))))) = (omega arith, omega arith)
 
-pub about-tag : (e : Event) → 2 ≤ tagOf the-type e → aboutVm e ≡ true
-about-tag Start h = absurd (omega arith)
-about-tag (Tick a) h = absurd (omega arith)
+pub about-tag : (e : Event) → (2 ≤ tagOf the-type e) × (tagOf the-type e ≤ 8) → aboutVm e ≡ true
+about-tag Start h = absurd (omega (arith, h .0))
+about-tag (Tick a) h = absurd (omega (arith, h .0))
 about-tag (Stop v) h = refl
 about-tag (Shutdown v) h = refl
 about-tag (Restart v) h = refl
@@ -216,3 +236,4 @@ about-tag (Extra v) h = refl
 about-tag (Call s n a) h = refl
 about-tag (Write o x) h = refl
 about-tag (Fault k d) h = refl
+about-tag (Copy p w) h = absurd (omega (arith, h .1))

@@ -15,7 +15,6 @@ use Rattle.engine.proofs.step.Kinds as step-kinds
 use Rattle.engine.proofs.step.Reads as step-reads
 use Rattle.engine.proofs.whole.Kinds as whole-kinds
 use Rattle.engine.proofs.whole.Reads as whole-reads
-use Rattle.regions.specs.Rules.{none}
 
 pub counts-of-one : OneAnswer 0 counts-of-kinds.ps counts-of-kinds.r counts-of-reads.Post
 counts-of-one κs a x y s t p q = p ∙ sym q
@@ -30,5 +29,5 @@ whole-one κs a x y s t p q = p ∙ sym q
 pub step-one : (κs : Lfts 6) (a : Dens κs step-kinds.ps) (x y : resT step-kinds.r κs .Denot) (s t : AtExit (endedOf 6 step-kinds.ps step-kinds.r) κs)
     → step-reads.Post κs a x s → step-reads.Post κs a y t → (vmsOf (now (s .0)) (now (s .1 .0)) ≡ vmsOf (now (t .0)) (now (t .1 .0))) × (x ≡ y)
 step-one κs a x y s t p q =
-    let e = p none .same ∙ sym (q none .same) in
+    let e = p .same ∙ sym (q .same) in
     (ap (λ (d : Stepped). d .core .vms) e, ap (λ (d : Stepped). record { stand = record { clock = d .core .clock; running = d .core .running; queue = d .core .queue }; answer = d .answer }) e)

@@ -74,13 +74,13 @@ pub fn step(
     durations: &[u16],
     entries: &[u32],
     handlers: &[u32],
-    regions: &Regions,
+    regions: Regions,
     g: Counts,
     p: Stand,
     e: Event,
 ) -> Moved
     requires { ⌜ (length (now standings) ≡ 8) × (length (now words) ≡ 104) ⌝ }
-    ensures { λ r. ⌜ Moves (configOf g (now (owners .entry)) (now (durations .entry)) (now (entries .entry)) (now (handlers .entry)) (now (regions .entry))) (now (standings .entry)) (now (words .entry)) (now (standings .exit)) (now (words .exit)) p e r ⌝ }
+    ensures { λ r. ⌜ Moves (configOf g (now (owners .entry)) (now (durations .entry)) (now (entries .entry)) (now (handlers .entry)) regions) (now (standings .entry)) (now (words .entry)) (now (standings .exit)) (now (words .exit)) p e r ⌝ }
 {
     let clock = p.clock;
     let q = p.queue;
@@ -195,18 +195,18 @@ fn change(
 fn copy(
     standings: &mut [u8],
     words: &mut [u32],
-    regions: &Regions,
+    regions: Regions,
     p: Stand,
     asked: Pieces,
     w: Window,
 ) -> Moved
     requires { ⌜ (length (now standings) ≡ 8) × (length (now words) ≡ 104) ⌝ }
-    ensures { λ r. ⌜ ((g : Counts) (owners durations entries handlers : List ℕ) → Does (configOf g owners durations entries handlers (now (regions .entry))) (now (standings .entry)) (now (words .entry)) (now (standings .exit)) (now (words .exit)) p (Event.Copy asked w) r) ⌝ }
+    ensures { λ r. ⌜ ((g : Counts) (owners durations entries handlers : List ℕ) → Does (configOf g owners durations entries handlers regions) (now (standings .entry)) (now (words .entry)) (now (standings .exit)) (now (words .exit)) p (Event.Copy asked w) r) ⌝ }
 {
     let q = p.queue;
     let i = p.running;
     let vm = bank::vm_at(standings, words, i);
-    let f = copies::failure_of(*regions, i, w, asked);
+    let f = copies::failure_of(regions, i, w, asked);
     let d = Change::copying(i, vm.saved(asked.next), i, q, f.code, f.detail);
     let clock = p.clock;
     settled(standings, words, clock, i, d)

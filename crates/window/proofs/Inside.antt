@@ -14,6 +14,7 @@ use Rattle.window.specs.declared.Extent.{Extent}
 use Rattle.window.specs.declared.Window.{Window}
 
 module _ (w : Window) (a n : ℕ) where
+  -- the ways of the code: below the base, past the end, and else by what is left of the window
   pub inside-low : a < w .base → false ≡ inside w a n
   unfolding inside
   inside-low h = rw (lt-leb (w .base) a h)
@@ -31,6 +32,7 @@ module _ (w : Window) (a n : ℕ) where
         | no i ↦ rw (lt-leb n (w .size - (a - w .base)) (omega arith), lt-leb (a + n) (w .base + w .size) (omega arith))
       ])
 
+  -- D32 as facts
   pub inside-bounds : inside w a n ≡ true → (w .base ≤ a) × (a + n ≤ w .base + w .size)
   unfolding inside
   inside-bounds e =

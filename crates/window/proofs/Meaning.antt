@@ -1,6 +1,6 @@
 -- What a copy means, byte by byte (D36), and that a memory of zeros stays one.
 use Prim.Native.Nat.{suc, zero, ℕ, _+_, _-_, _<_, _≤_}
-use borrow.Author.Tests.{le-leb, le-ltb, leb-true, lt-leb, lt-ltb, ltb-true}
+use borrow.Author.Tests.{le-leb, le-ltb, lt-leb, lt-ltb}
 use lib.Dec.{leb, ltb}
 use lib.ListN.{List·getD-append, drop, getD, length, length-append, length-drop, length-replicate, length-take, replicate, take}
 use lib.Seq.{ext-getD, getD-append-add, getD-drop, getD-take, length-paste}
@@ -11,7 +11,7 @@ use mathlib.Core.Path.{ap, refl, sym, _∙_, _≡_}
 use native.Mathlib.Decide.{decLe, decLt, ℕ-discrete}
 use native.Mathlib.Omega.{arith}
 use Rattle.basis.specs.Choice.{both, pick}
-use Rattle.window.proofs.Inside.{Bounds, fits-bounds}
+use Rattle.window.proofs.Inside.{fits-bounds}
 use Rattle.window.proofs.Laws.{copied-append, moved-none}
 use Rattle.window.specs.Bytes.{copied}
 use Rattle.window.specs.Pieces.{copiedAll, fits, moved, noExtent, windowOf}
@@ -28,27 +28,33 @@ join-at a b n i e =
 
 module _ (from to n : ℕ) (m : List ℕ) (h : from + n ≤ length m) (g : to + n ≤ length m) where
   front : length (take to m ++ take n (drop from m)) ≡ to + n
-  front = length-append (take to m) (take n (drop from m)) ∙ (let a = length-take to m in let b = length-take n (drop from m) in let c = length-drop from m in omega arith)
+  front =
+      length-append (take to m) (take n (drop from m))
+      ∙ (let a = length-take to m in let b = length-take n (drop from m) in let c = length-drop from m in omega arith)
 
-  -- the bytes from `to` on are those that stood from `from` on; every other byte is as it was
+  -- the byte at a place: of the part before, of the part that was copied, or of the part behind
+  parts : (i : ℕ) → getD (copied from to n m) i 0
+      ≡ pick (ltb i (to + n)) (pick (ltb i to) (getD (take to m) i 0) (getD (take n (drop from m)) (i - to) 0)) (getD (drop (to + n) m) (i - (to + n)) 0)
+  unfolding copied
+  parts i =
+      join-at (take to m ++ take n (drop from m)) (drop (to + n) m) (to + n) i front
+      ∙ ap (λ (b : ℕ). pick (ltb i (to + n)) b (getD (drop (to + n) m) (i - (to + n)) 0)) (join-at (take to m) (take n (drop from m)) to i (let t = length-take to m in omega arith))
+
+  -- D36: the bytes from `to` on are those that stood from `from` on
   pub copied-in : (i : ℕ) → to ≤ i → i < to + n → getD (copied from to n m) i 0 ≡ getD m (from + (i - to)) 0
-  unfolding copied
   copied-in i a b =
-      join-at (take to m ++ take n (drop from m)) (drop (to + n) m) (to + n) i front
-      ∙ rw (lt-ltb i (to + n) b) (join-at (take to m) (take n (drop from m)) to i (let t = length-take to m in omega arith) ∙ rw (le-ltb i to a) (getD-take n (drop from m) (i - to) 0 (omega arith) ∙ getD-drop from m (i - to) 0))
+      parts i ∙ rw (lt-ltb i (to + n) b, le-ltb i to a) (getD-take n (drop from m) (i - to) 0 (omega arith) ∙ getD-drop from m (i - to) 0)
 
+  -- the bytes below are as they were
   pub copied-below : (i : ℕ) → i < to → getD (copied from to n m) i 0 ≡ getD m i 0
-  unfolding copied
-  copied-below i a =
-      join-at (take to m ++ take n (drop from m)) (drop (to + n) m) (to + n) i front
-      ∙ rw (lt-ltb i (to + n) (omega arith)) (join-at (take to m) (take n (drop from m)) to i (let t = length-take to m in omega arith) ∙ rw (lt-ltb i to a) (getD-take to m i 0 a))
+  copied-below i a = parts i ∙ rw (lt-ltb i (to + n) (omega arith), lt-ltb i to a) (getD-take to m i 0 a)
 
+  -- the bytes from the end on are as they were
   pub copied-above : (i : ℕ) → to + n ≤ i → getD (copied from to n m) i 0 ≡ getD m i 0
-  unfolding copied
   copied-above i a =
-      join-at (take to m ++ take n (drop from m)) (drop (to + n) m) (to + n) i front
-      ∙ rw (le-ltb i (to + n) a) (getD-drop (to + n) m (i - (to + n)) 0 ∙ ap (λ (k : ℕ). getD m k 0) (omega arith))
+      parts i ∙ rw (le-ltb i (to + n) a) (getD-drop (to + n) m (i - (to + n)) 0 ∙ ap (λ (k : ℕ). getD m k 0) (omega arith))
 
+  -- and there are as many
   pub copied-long : length (copied from to n m) ≡ length m
   unfolding copied
   copied-long = length-paste m to (drop from m) n g (let c = length-drop from m in omega arith)
@@ -66,13 +72,36 @@ abbrev pub allFit : ℕ → List Extent → List ℕ → Type 0
 allFit base xs m = (k : ℕ) → k < length xs → fits (windowOf base m) (getD xs k noExtent) ≡ true
 
 module _ (base : ℕ) (x : Extent) (m : List ℕ) (f : fits (windowOf base m) x ≡ true) where
+  -- where it has bytes, its two ranges are places of the memory
+  places : x .length ≢ 0 → (base ≤ x .destination) × (x .source - base + x .length ≤ length m) × (x .destination - base + x .length ≤ length m)
+  places e = let b = fits-bounds (windowOf base m) x f e in (b .to, omega (arith, b .from, b .from-end), omega (arith, b .to, b .to-end))
+
   -- a copy keeps the length of the memory
   pub moved-long : length (moved base x m) ≡ length m
   moved-long =
       elim (ℕ-discrete (x .length) 0) [
         | yes e ↦ ap (λ (l : List ℕ). length l) (sym (moved-none base x m e))
-        | no e ↦ (let b = fits-bounds (windowOf base m) x f e in
-            copied-long (x .source - base) (x .destination - base) (x .length) m (omega (arith, b .from, b .from-end)) (omega (arith, b .to, b .to-end)))
+        | no e ↦ (let p = places e in copied-long (x .source - base) (x .destination - base) (x .length) m (p .1) (p .2))
+      ]
+
+  moved-in : (i : ℕ) → x .destination ≤ base + i → base + i < x .destination + x .length → getD (moved base x m) i 0 ≡ getD m (sourceOf base x i) 0
+  moved-in i h g =
+      let p = places (omega arith) in
+      copied-in (x .source - base) (x .destination - base) (x .length) m (p .1) (p .2) i (omega arith) (omega (arith, p .0))
+      ∙ ap (λ (k : ℕ). getD m k 0) (omega (arith, p .0))
+
+  moved-below : (i : ℕ) → base + i < x .destination → getD (moved base x m) i 0 ≡ getD m i 0
+  moved-below i h =
+      elim (ℕ-discrete (x .length) 0) [
+        | yes e ↦ ap (λ (l : List ℕ). getD l i 0) (sym (moved-none base x m e))
+        | no e ↦ (let p = places e in copied-below (x .source - base) (x .destination - base) (x .length) m (p .1) (p .2) i (omega arith))
+      ]
+
+  moved-above : (i : ℕ) → x .destination + x .length ≤ base + i → getD (moved base x m) i 0 ≡ getD m i 0
+  moved-above i h =
+      elim (ℕ-discrete (x .length) 0) [
+        | yes e ↦ ap (λ (l : List ℕ). getD l i 0) (sym (moved-none base x m e))
+        | no e ↦ (let p = places e in copied-above (x .source - base) (x .destination - base) (x .length) m (p .1) (p .2) i (omega (arith, p .0)))
       ]
 
   -- D36: in the destination the source's bytes as they stood, elsewhere the bytes as before
@@ -80,28 +109,18 @@ module _ (base : ℕ) (x : Extent) (m : List ℕ) (f : fits (windowOf base m) x 
   moved-at i =
       elim (decLe (x .destination) (base + i)) [
         | yes h ↦ rw (le-leb (x .destination) (base + i) h) (elim (decLt (base + i) (x .destination + x .length)) [
-          | yes g ↦ rw (lt-ltb (base + i) (x .destination + x .length) g) (let b = bounds (omega arith) in
-              copied-in (x .source - base) (x .destination - base) (x .length) m (omega (arith, b .from, b .from-end)) (omega (arith, b .to, b .to-end)) i (omega (arith, b .to)) (omega (arith, b .to))
-              ∙ ap (λ (k : ℕ). getD m k 0) (omega (arith, b .to)))
-          | no g ↦ rw (le-ltb (base + i) (x .destination + x .length) (omega arith)) (same (λ b. copied-above (x .source - base) (x .destination - base) (x .length) m (omega (arith, b .from, b .from-end)) (omega (arith, b .to, b .to-end)) i (omega (arith, b .to))))
+          | yes g ↦ rw (lt-ltb (base + i) (x .destination + x .length) g) (moved-in i h g)
+          | no g ↦ (let a : x .destination + x .length ≤ base + i = omega arith in
+              rw (le-ltb (base + i) (x .destination + x .length) a) (moved-above i a))
         ])
-        | no h ↦ rw (lt-leb (x .destination) (base + i) (omega arith)) (same (λ b. copied-below (x .source - base) (x .destination - base) (x .length) m (omega (arith, b .from, b .from-end)) (omega (arith, b .to, b .to-end)) i (omega (arith, b .to))))
+        | no h ↦ (let b : base + i < x .destination = omega arith in rw (lt-leb (x .destination) (base + i) b) (moved-below i b))
       ]
-    where
-      bounds : x .length ≢ 0 → Bounds (windowOf base m) x
-      bounds = fits-bounds (windowOf base m) x f
-
-      same : (Bounds (windowOf base m) x → getD (moved base x m) i 0 ≡ getD m i 0) → getD (moved base x m) i 0 ≡ getD m i 0
-      same g =
-          elim (ℕ-discrete (x .length) 0) [
-            | yes e ↦ ap (λ (l : List ℕ). getD l i 0) (sym (moved-none base x m e))
-            | no e ↦ g (bounds e)
-          ]
 
 -- what fits a memory fits it after a copy
 rest-fits : (base : ℕ) (x : Extent) (xs : List Extent) (m : List ℕ) → allFit base (x ∷ xs) m → allFit base xs (moved base x m)
 rest-fits base x xs m f k h = rw (moved-long base x m (f zero (omega arith))) (f (suc k) (omega arith))
 
+-- D36: copies in their order keep the length of the memory
 pub copied-all-long : (base : ℕ) (xs : List Extent) (m : List ℕ) → allFit base xs m → length (copiedAll base xs m) ≡ length m
 unfolding copiedAll
 copied-all-long base [] m f = refl
@@ -125,12 +144,13 @@ copied-all-last base xs x m i f g h =
     ∙ moved-at base x (copiedAll base xs m) (rw (copied-all-long base xs m f) g) i
     ∙ rw h
 
--- a run begins with zeros, and no copy makes anything else of them
+-- every byte of zeros, and behind them, is 0
 zeros-at : (k i : ℕ) → _≡_ {A = ℕ} (getD (replicate k 0) i 0) 0
 zeros-at zero i = refl
 zeros-at (suc k) zero = refl
 zeros-at (suc k) (suc i) = zeros-at k i
 
+-- bytes copied within zeros leave zeros
 pub zeros-copied : (from to n k : ℕ) → from + n ≤ k → to + n ≤ k → copied from to n (replicate k 0) ≡ replicate k 0
 zeros-copied from to n k h g =
     let z : ℕ = 0 in
@@ -154,6 +174,7 @@ zeros-moved base x k f =
           zeros-copied (x .source - base) (x .destination - base) (x .length) k (omega (arith, l, b .from, b .from-end)) (omega (arith, l, b .to, b .to-end)))
     ]
 
+-- L6: a log begins with zeros, and no Copy makes anything else of them
 pub zeros-all : (base : ℕ) (xs : List Extent) (k : ℕ) → allFit base xs (replicate k 0) → copiedAll base xs (replicate k 0) ≡ replicate k 0
 unfolding copiedAll
 zeros-all base [] k f = refl

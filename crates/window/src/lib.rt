@@ -101,6 +101,11 @@ fn copy_extent(m: &mut [u8], base: u32, source: u32, destination: u32, n: u32)
     ensures { λ _. ⌜ now (m .exit) ≡ moved base (record { source = source; destination = destination; length = n }) (now (m .entry)) ⌝ }
 {
     if n != 0 {
-        bytes::copy(m, (source - base) as usize, (destination - base) as usize, n as usize);
+        bytes::copy(
+            m,
+            (source - base) as usize,
+            (destination - base) as usize,
+            n as usize,
+        );
     }
 }

@@ -182,7 +182,8 @@ fn borders() -> Vec<Case> {
     places.dedup();
     let each = |make: &dyn Fn(u32, u32) -> Extent| -> Case {
         let lengths = [1, 2, 3, 255, 256].into_iter();
-        let copies = places.iter().flat_map(|place| lengths.clone().map(|length| copy(&[make(*place, length)])));
+        let copies =
+            places.iter().flat_map(|place| lengths.clone().map(|length| copy(&[make(*place, length)])));
         alone(&copies.collect::<Vec<_>>())
     };
     vec![

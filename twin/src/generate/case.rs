@@ -119,8 +119,8 @@ fn garbage(random: &mut Random) -> Case {
 fn with_garbage_log(random: &mut Random) -> Case {
     let image = image_bytes(&legal_config(random), Flaw::None);
     let length = random.between(0, 200);
-    let log =
-        (0..length).map(|_| random.pick(&[0x10, 0x11, 0x12, 0x13, 0x14, 0x15, 0x16, 0x17, 0x18, 0x1a, 0, 1, 8]));
+    let log = (0..length)
+        .map(|_| random.pick(&[0x10, 0x11, 0x12, 0x13, 0x14, 0x15, 0x16, 0x17, 0x18, 0x1a, 0, 1, 8]));
     Case { image, log: log.collect() }
 }
 

@@ -16,8 +16,7 @@ use crate::generate::values::address;
 const LENGTHS: [u64; 12] = [0, 1, 1, 2, 4, 16, 31, 32, 64, 200, 255, 256];
 
 /// Lengths over 256, some of them with small low bytes.
-const TOO_LONG: [u32; 8] =
-    [MAX_EXTENT_BYTES + 1, 257, 258, 512, 0x1_0000, 0x1_0010, 0x8000_0000, u32::MAX];
+const TOO_LONG: [u32; 8] = [MAX_EXTENT_BYTES + 1, 257, 258, 512, 0x1_0000, 0x1_0010, 0x8000_0000, u32::MAX];
 
 /// What a VM may read and write of the window.
 pub struct Room {
@@ -60,8 +59,8 @@ pub fn copy_request(random: &mut Random, room: &Room) -> CopyRequest {
     }
     let mut request = CopyRequest::of(address(random), &named);
     fill_past_count(random, room, &mut request);
-    if random.percent(14) {
-        spoil(random, &mut request);
+    if random.percent(15) {
+        spoil(random, room, &mut request);
     }
     request
 }
@@ -115,29 +114,41 @@ fn place(random: &mut Random, stretch: &Stretch, length: u64) -> u64 {
 }
 
 /// Makes a Copy fail, mostly in a late extent; often later ones are bad as well.
-fn spoil(random: &mut Random, request: &mut CopyRequest) {
+fn spoil(random: &mut Random, room: &Room, request: &mut CopyRequest) {
     let count = usize::from(request.count);
     if count == 0 || random.percent(15) {
         request.count = random.pick(&[9, 9, 10, 16, 128, 255]);
         return;
     }
     let first = if random.percent(50) { count - 1 } else { random.below(count) };
-    spoil_extent(random, &mut request.extents[first]);
+    spoil_extent(random, room, &mut request.extents[first]);
     for extent in &mut request.extents[first + 1..] {
         if random.percent(30) {
-            spoil_extent(random, extent);
+            spoil_extent(random, room, extent);
         }
     }
 }
 
-fn spoil_extent(random: &mut Random, extent: &mut Extent) {
-    match random.below(6) {
+fn spoil_extent(random: &mut Random, room: &Room, extent: &mut Extent) {
+    match random.below(9) {
         0..=1 => extent.length = random.pick(&TOO_LONG),
         2 => extent.source = wild_address(random),
         3 => extent.destination = wild_address(random),
         4 => extent.source = extent.source.wrapping_add(random.pick(&[256, 0x4000, 0xc000_0000])),
+        // What may be read: often it may not be written.
+        5 => extent.destination = some_stretch(random, &room.readable).start as u32,
+        6 => (extent.source, extent.length) = over_an_end(random),
+        7 => (extent.destination, extent.length) = over_an_end(random),
         _ => *extent = wild_extent(random),
     }
+}
+
+/// A range over an end of the window, by one byte or more; there may be regions that reach so far.
+fn over_an_end(random: &mut Random) -> (u32, u32) {
+    let (inside, outside) = (random.between(1, 16) as u32, random.pick(&[1, 1, 8]));
+    let end = WINDOW_BASE + WINDOW_BYTES as u32;
+    let first = if random.percent(50) { WINDOW_BASE - outside } else { end - inside };
+    (first, inside + outside)
 }
 
 /// Any Copy, mostly a bad one.

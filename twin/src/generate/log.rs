@@ -25,12 +25,12 @@ pub struct Mood {
 }
 
 const MOODS: [Mood; 6] = [
-    Mood { tick: 50, call: 20, write: 12, fault: 1, master: 5, extra: 5, odd: 3, burst: 4, copy: 4 },
-    Mood { tick: 25, call: 35, write: 30, fault: 0, master: 3, extra: 2, odd: 1, burst: 4, copy: 3 },
-    Mood { tick: 40, call: 10, write: 3, fault: 2, master: 10, extra: 30, odd: 3, burst: 2, copy: 3 },
-    Mood { tick: 35, call: 10, write: 5, fault: 5, master: 35, extra: 8, odd: 5, burst: 2, copy: 2 },
-    Mood { tick: 15, call: 10, write: 10, fault: 3, master: 10, extra: 5, odd: 40, burst: 7, copy: 5 },
-    Mood { tick: 30, call: 8, write: 8, fault: 1, master: 5, extra: 10, odd: 4, burst: 4, copy: 30 },
+    Mood { tick: 50, call: 20, write: 12, fault: 1, master: 5, extra: 5, odd: 3, burst: 4, copy: 8 },
+    Mood { tick: 25, call: 35, write: 30, fault: 0, master: 3, extra: 2, odd: 1, burst: 4, copy: 6 },
+    Mood { tick: 40, call: 10, write: 3, fault: 2, master: 10, extra: 30, odd: 3, burst: 2, copy: 6 },
+    Mood { tick: 35, call: 10, write: 5, fault: 5, master: 35, extra: 8, odd: 5, burst: 2, copy: 5 },
+    Mood { tick: 15, call: 10, write: 10, fault: 3, master: 10, extra: 5, odd: 40, burst: 7, copy: 10 },
+    Mood { tick: 30, call: 8, write: 8, fault: 1, master: 5, extra: 10, odd: 4, burst: 4, copy: 45 },
 ];
 
 /// Nearly only ticks, for long runs.

@@ -100,8 +100,8 @@ fn window_range(random: &mut Random) -> (u32, u32) {
     let near = random.pick(&[0, 1, 16, 0x80]);
     let start = match random.below(16) {
         0 => WINDOW_BASE - near,
-        1 => (end - 1).saturating_sub(more) + near,
-        2 => end - near,
+        1 => end - 1 - more + near,
+        2 => end - near.max(1),
         3 => return (WINDOW_BASE, end - 1),
         4..=5 => WINDOW_BASE + 16 * random.below(WINDOW_BYTES / 16) as u32,
         _ => WINDOW_BASE + 16 * random.below(0x100) as u32,
@@ -126,7 +126,7 @@ fn range(random: &mut Random, others: &[Region]) -> (u32, u32) {
         let other = random.pick(others);
         return near(random, other, more);
     }
-    match random.below(24) {
+    match random.below(30) {
         0 => (0, more),
         1 => (u32::MAX - more, u32::MAX),
         2 => (0, u32::MAX),
@@ -134,6 +134,7 @@ fn range(random: &mut Random, others: &[Region]) -> (u32, u32) {
             let start = random.word();
             (start, start.saturating_add(more))
         }
+        4..=9 => window_range(random),
         _ => {
             let start = 0x2000_0000 + 0x1000 * random.below(64) as u32;
             (start, start + more)

@@ -28,7 +28,8 @@ array-copy-out-x c = search needs
 copy-extent-requires : tie.Need-copy-extent-requires Inv-loop μ-loop
 copy-extent-requires c κs = let a = c .before .before .before .before .before .args in
     let l = c .before .before .before .loop in
-    ap (λ (z : ℕ). fits (record { base = a .base; size = z }) (getD (a .t3) (l .k) noExtent)) (l .inv .1) ∙ c .before .before .before .before .before .pre .1 (l .k) (omega arith)
+    ap (λ (z : ℕ). fits (record { base = a .base; size = z }) (getD (a .t3) (l .k) noExtent)) (l .inv .1)
+    ∙ c .before .before .before .before .before .pre .1 (l .k) (omega arith)
 
 add-k : tie.Need-add-k Inv-loop μ-loop
 add-k c = search needs
@@ -40,7 +41,8 @@ loop-again : tie.Need-loop-again Inv-loop μ-loop
 loop-again c = let a = c .before .before .before .before .before .before .before .before .args in
     let l = c .before .before .before .before .before .before .loop in
     let s : length (a .t3) ≡ 8 = search (needs, length-mapped) in
-    (omega arith, c .before .before .copy-extent .kept .0 ∙ l .inv .1, copied-more (a .base) (a .t3) (l .k) (a .m .now) (l .m) (c .before .before .copy-extent .last .0) (omega arith) (l .inv .2) (c .before .before .copy-extent .ensures))
+    let d = c .before .before .copy-extent in
+    (omega arith, d .kept .0 ∙ l .inv .1, copied-more (a .base) (a .t3) (l .k) (a .m .now) (l .m) (d .last .0) (omega arith) (l .inv .2) (d .ensures))
 
 same-length : tie.Need-same-length Inv-loop μ-loop
 same-length c = search needs

@@ -8,13 +8,15 @@ use Rattle.window.proofs.copy_extent.Tie as tie
 use Rattle.window.specs.Pieces.{extentOf, windowOf}
 
 sub-copy : tie.Need-sub-copy
-sub-copy c = let a = c .before .before .before .args in fits-bounds (windowOf (a .base) (a .m .now)) (extentOf (a .source) (a .destination) (a .n)) (c .before .before .before .pre) (c .before .if1 .taken) .from
+sub-copy c = let a = c .before .before .before .args in
+    fits-bounds (windowOf (a .base) (a .m .now)) (extentOf (a .source) (a .destination) (a .n)) (c .before .before .before .pre) (c .before .if1 .taken) .from
 
 cast-copy : tie.Need-cast-copy
 cast-copy c = search needs
 
 sub-copy-2 : tie.Need-sub-copy-2
-sub-copy-2 c = let a = c .before .before .before .args in fits-bounds (windowOf (a .base) (a .m .now)) (extentOf (a .source) (a .destination) (a .n)) (c .before .before .before .pre) (c .before .if1 .taken) .to
+sub-copy-2 c = let a = c .before .before .before .args in
+    fits-bounds (windowOf (a .base) (a .m .now)) (extentOf (a .source) (a .destination) (a .n)) (c .before .before .before .pre) (c .before .if1 .taken) .to
 
 cast-copy-2 : tie.Need-cast-copy-2
 cast-copy-2 c = search needs

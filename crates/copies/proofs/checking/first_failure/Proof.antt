@@ -47,7 +47,9 @@ loop-again c = let l = c .before .before .before .before .loop in
     let a = c .before .before .before .before .before .before .args in
     let s : length (a .t8) ≡ 8 = search (needs, length-mapped) in
     let q = may (listed (a .count) (a .holders .now) (a .permissions .now) (a .starts .now) (a .lasts .now)) (a .v) in
-    (omega arith, first-more (extentFailure q (a .w)) (extent-clean q (a .w)) (a .t8) (l .k) (l .f) (c .before .extent-failure .result) (c .or-else .result) (omega arith) (l .inv .1) (c .before .extent-failure .ensures) (c .or-else .ensures))
+    let x = c .before .extent-failure in
+    let f = first-more (extentFailure q (a .w)) (extent-clean q (a .w)) (a .t8) (l .k) (l .f) (x .result) (c .or-else .result) in
+    (omega arith, f (omega arith) (l .inv .1) (x .ensures) (c .or-else .ensures))
 
 returns : tie.Need-returns Inv-loop μ-loop
 returns c = let l = c .before .loop in

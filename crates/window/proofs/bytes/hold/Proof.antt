@@ -33,8 +33,9 @@ loop-less : tie.Need-loop-less Inv-loop μ-loop
 loop-less c = search needs
 
 loop-again : tie.Need-loop-again Inv-loop μ-loop
-loop-again c = let l = c .before .before .loop in
-    (omega arith, simp length-set (l .inv .1), hold-more (c .before .before .before .args .m .now) (l .held) (c .before .before .before .args .from) (l .k) (search needs) (search needs) (l .inv .2))
+loop-again c = let a = c .before .before .before .args in
+    let l = c .before .before .loop in
+    (omega arith, simp length-set (l .inv .1), hold-more (a .m .now) (l .held) (a .from) (l .k) (search needs) (search needs) (l .inv .2))
 
 returns : tie.Need-returns Inv-loop μ-loop
 returns c = let e : c .before .loop .k ≡ c .before .before .args .n = omega arith in rw (← e) (c .before .loop .inv .2)

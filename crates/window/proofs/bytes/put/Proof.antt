@@ -34,15 +34,17 @@ loop-less : tie.Need-loop-less Inv-loop μ-loop
 loop-less c = search needs
 
 loop-again : tie.Need-loop-again Inv-loop μ-loop
-loop-again c = let l = c .before .loop in
-    (omega arith, search needs, put-more (c .before .before .args .to) (l .k) (c .before .before .args .t4) (c .before .before .args .m .now) (l .m) (search needs) (search needs) (l .inv .2))
+loop-again c = let a = c .before .before .args in
+    let l = c .before .loop in
+    (omega arith, search needs, put-more (a .to) (l .k) (a .t4) (a .m .now) (l .m) (search needs) (search needs) (l .inv .2))
 
 same-length : tie.Need-same-length Inv-loop μ-loop
 same-length c = search needs
 
 returns : tie.Need-returns Inv-loop μ-loop
-returns c = let e : c .before .loop .k ≡ c .before .before .args .n = omega arith in
-    c .before .loop .inv .2 ∙ ap (λ (k : ℕ). put (c .before .before .args .to) k (c .before .before .args .t4) (c .before .before .args .m .now)) e
+returns c = let a = c .before .before .args in
+    let e : c .before .loop .k ≡ a .n = omega arith in
+    c .before .loop .inv .2 ∙ ap (λ (k : ℕ). put (a .to) k (a .t4) (a .m .now)) e
 
 pub put-spec : {M : Type 1} → statement M
 put-spec =
