@@ -163,8 +163,8 @@ fn too_few_cases_are_said_to_be_too_few() {
     assert!(outcome.text.contains("points were never reached"), "{}", outcome.text);
 }
 
-/// H1 to H11, I6, I8, I9, I15, T10, E13, D31 to D37, N9, N13 to N28, M1 to M8: every easy mistake and every other wrong twin
-/// is told from the right one.
+/// H1 to H11, I6, I8, I9, I15, T10, E13, D31 to D37, N9, N13 to N28, M1 to M8: every easy mistake and every
+/// other wrong twin is told from the right one.
 #[test]
 fn every_wrong_twin_is_told_apart() {
     let (text, well) = selftest(1, 500);
@@ -180,8 +180,8 @@ fn every_wrong_twin_is_told_apart() {
     assert!(text.contains("NEVER told apart in 1 memory folders"));
 }
 
-/// H1 to H7, I8, I9, I15, T10, A4, A5, R1, D13: every fault, notice, code and refusal, every number at every
-/// delivery, and every queue count up, down and away.
+/// H1 to H7, I8, I9, I15, T10, A4, A5, R1, D13, D31 to D36: every fault, notice, code and refusal, every
+/// number at every delivery, every queue count up, down and away, and every way of a copy.
 #[test]
 fn the_edge_cases_alone_reach_every_point() {
     for seed in 0..3 {

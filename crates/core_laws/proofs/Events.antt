@@ -17,16 +17,16 @@ use Rattle.change.specs.Changes.{queueWithout, runningWithout}
 use Rattle.change.specs.declared.Change.{Change}
 use Rattle.config.specs.Sizes.{entryAt, handlerAt, isSpare}
 use Rattle.core.specs.Changes.{changedBy, replaced}
-use Rattle.core.specs.Events.{called, done, startCore, stepOf, tickClock, tickCore, tickOwner, tickQueue, tickTurn}
+use Rattle.core.specs.Events.{called, done, failureOf, startCore, stepOf, tickClock, tickCore, tickOwner, tickQueue, tickTurn}
 use Rattle.core.specs.Refusals.{rowOf}
 use Rattle.core.specs.Sound.{Sound, sound}
 use Rattle.core.specs.State.{Shaped, full, ownerNow, readyAt, vmAt}
 use Rattle.core.specs.declared.Core.{Core}
 use Rattle.core_laws.proofs.Facts.{count-most, entries-len, entries-ready, ready-below, room-most, running-below, sound-is, sound-of}
 use Rattle.core_laws.proofs.Refused.{refused-core}
-use Rattle.core_laws.proofs.View.{call-case, row-call, row-extra, row-fault, row-restart, row-shutdown, row-start, row-stop, row-tick, row-write, step-case}
+use Rattle.core_laws.proofs.View.{call-case, copy-case, row-call, row-copy, row-extra, row-fault, row-restart, row-shutdown, row-start, row-stop, row-tick, row-write, step-case}
 use Rattle.core_laws.specs.Run.{run}
-use Rattle.event.specs.declared.Event.the-variants.{Call, Extra, Fault, Restart, Shutdown, Start, Stop, Tick, Write}
+use Rattle.event.specs.declared.Event.the-variants.{Call, Copy, Extra, Fault, Restart, Shutdown, Start, Stop, Tick, Write}
 use Rattle.event.specs.declared.Event.{Event}
 use Rattle.guest.proofs.Facts.{deliver-standing, pend-standing, write-standing}
 use Rattle.guest.specs.Deliver.{backFrom, deliver}
@@ -143,7 +143,7 @@ replaced-sound c n s on v l vm m r run q w =
           | no e ↦ rw (getD-set-other (c .vms) v k vm fresh e) (s .standings k h)
         ]
 
--- Stop, Fault, Call 3, a Call that fails: the VM is no longer ready, its entries leave, and it runs no more
+-- Stop, Fault, Call 3, a Call or a Copy that fails: the VM is no longer ready, its entries leave, and it runs no more
 pub ended-sound : (c : Core) → Shaped c → Sound c → isStarted (c .clock) ≡ true → (v : ℕ) → v < c .config .count → (vm : Vm) → vm .standing ≤ lastStanding
     → Sound (replaced c v vm (runningWithout (c .running) v) (queueWithout (c .queue) v))
 unfolding runningWithout
@@ -156,7 +156,7 @@ ended-sound c p s on v l vm m =
     go true e h = absurd (h refl)
     go false e h = (refl, rw (getD-set-other (c .vms) v (c .running) vm fresh (eqb-false (c .running) v e)) (s .ready h))
 
--- Shutdown, Restart, Extra, Write, and a Call that goes on: the VM is ready after it, and who ran goes on
+-- Shutdown, Restart, Extra, Write, and a Call or a Copy that goes on: the VM is ready after it, and who ran goes on
 pub renewed-sound : (c : Core) → length (c .vms) ≡ 8 → Sound c → isStarted (c .clock) ≡ true → (v : ℕ) → v < c .config .count → (vm : Vm) → isReady vm ≡ true
     → (q : Queue) → Queued (c .config .room) (set (c .vms) v vm) q → Sound (replaced c v vm (c .running) q)
 renewed-sound c n s on v l vm r q w =
@@ -339,6 +339,12 @@ module _ (c : Core) (p : Shaped c) (s : Sound c) where
       let a = row-write c o x r in
       goes-on (a .0) (a .1) (write o x (vmAt c (c .running))) (write-standing o x (vmAt c (c .running))) (c .queue) (queued-now c s)
   done-sound (Fault k d) r = let a = row-fault c k d r in ends (a .0) (a .1) (endedAs 4 (vmAt c (c .running))) (omega arith)
+  done-sound (Copy q w) r =
+      let a = row-copy c q w r in
+      let vm : Vm = savedAt (q .next) (vmAt c (c .running)) in
+      copy-case (λ (d : Change). Sound (changedBy c d .core)) (c .running) (c .queue) (c .running) vm (failureOf c w q .code) (failureOf c w q .detail)
+      (λ z. goes-on (a .0) (a .1) vm refl (c .queue) (queued-now c s))
+      (λ z. ends (a .0) (a .1) (endedAs 4 vm) (omega arith))
 
 -- W1 to W13: every event keeps them
 pub step-facts : (c : Core) (e : Event) → Shaped c → Sound c → Sound (stepOf c e .core)

@@ -11,13 +11,13 @@ use Rattle.config.specs.Ranges.{Sized}
 use Rattle.config.specs.Sizes.{isSpare}
 use Rattle.config.specs.declared.Config.{Config}
 use Rattle.core.specs.Changes.{replaced}
-use Rattle.core.specs.Events.{done, startCore, stepOf, tickClock, tickOwner, tickQueue, tickTurn}
+use Rattle.core.specs.Events.{done, failureOf, startCore, stepOf, tickClock, tickOwner, tickQueue, tickTurn}
 use Rattle.core.specs.State.{Shaped, freshCore, full, withClock, withQueue, withRunning, withVms}
 use Rattle.core.specs.declared.Core.{Core}
 use Rattle.core_laws.proofs.Refused.{refused-core}
-use Rattle.core_laws.proofs.View.{call-case, done-case, step-case}
+use Rattle.core_laws.proofs.View.{call-case, copy-case, done-case, step-case}
 use Rattle.event.specs.Kinds.{isStart, isTick}
-use Rattle.event.specs.declared.Event.the-variants.{Call, Extra, Fault, Restart, Shutdown, Start, Stop, Tick, Write}
+use Rattle.event.specs.declared.Event.the-variants.{Call, Copy, Extra, Fault, Restart, Shutdown, Start, Stop, Tick, Write}
 use Rattle.event.specs.declared.Event.{Event}
 use Rattle.guest.specs.Record.{startedAt}
 use Rattle.guest.specs.declared.Vm.{Vm}
@@ -114,6 +114,10 @@ shaped-done c s (Call service argument next) =
     (λ h l. s .places) (λ h l. places-pushed (c .running) (c .queue) (s .places)) (λ h. without-places c s (c .running)))
 shaped-done c s (Write o x) = shaped-replaced c s _ _ _ _ (s .places)
 shaped-done c s (Fault k d) = shaped-replaced c s _ _ _ _ (without-places c s (c .running))
+shaped-done c s (Copy p w) =
+    shaped-replaced c s _ _ _ _
+    (copy-case (λ (d : Change). Places (d .queue)) (c .running) (c .queue) (c .running) _ (failureOf c w p .code) (failureOf c w p .detail)
+    (λ h. s .places) (λ h. without-places c s (c .running)))
 
 -- T1, T5: eight records, sixteen places and eight counts
 pub shaped-step : (c : Core) (e : Event) → Shaped c → Shaped (stepOf c e .core)

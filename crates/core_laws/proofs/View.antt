@@ -11,7 +11,7 @@ use Rattle.basis.specs.Bounds.{within}
 use Rattle.basis.specs.Choice.{both, pick}
 use Rattle.basis.specs.Nobody.{nobody}
 use Rattle.change.specs.Answers.{noNotice, noticeOf}
-use Rattle.change.specs.Changes.{calledFrom, deliveringFrom, endingFrom, failingFrom, queueingFrom, turnedAwayFrom}
+use Rattle.change.specs.Changes.{calledFrom, copyingFrom, deliveringFrom, endingFrom, failingFrom, queueingFrom, renewedFrom, turnedAwayFrom}
 use Rattle.change.specs.declared.Change.{Change}
 use Rattle.core.specs.Changes.{answering, changedBy}
 use Rattle.core.specs.Events.{done, startCore, stepOf, tickCore, tickTurn}
@@ -21,7 +21,7 @@ use Rattle.core.specs.State.{full, idle, readyAt}
 use Rattle.core.specs.declared.Core.{Core}
 use Rattle.core.specs.declared.Stepped.{Stepped}
 use Rattle.event.specs.Kinds.{isExtra, isStart, isTick, ofMaster, ofRunning, subject, wantsReady}
-use Rattle.event.specs.declared.Event.the-variants.{Call, Extra, Fault, Restart, Shutdown, Start, Stop, Tick, Write}
+use Rattle.event.specs.declared.Event.the-variants.{Call, Copy, Extra, Fault, Restart, Shutdown, Start, Stop, Tick, Write}
 use Rattle.event.specs.declared.Event.{Event}
 use Rattle.guest.specs.Deliver.{backFrom, deliver}
 use Rattle.guest.specs.Record.{pend}
@@ -30,6 +30,8 @@ use Rattle.guest.specs.declared.Vm.{Vm}
 use Rattle.logic.specs.Rows.{strayFault, strayWrite}
 use Rattle.queue.specs.declared.Queue.{Queue}
 use Rattle.table.specs.Position.{isStarted}
+use Rattle.window.specs.declared.Pieces.{Pieces}
+use Rattle.window.specs.declared.Window.{Window}
 
 -- refused with n, or done
 pub data View (c : Core) (e : Event) : Stepped → Type 0 where
@@ -200,6 +202,12 @@ row-fault c k d r =
     let w = within-is 3 5 k (not-false (within 3 5 k) (row-last (not (within 3 5 k)) 9 (omega arith) (b .1))) in
     (a .0, b .0, w .0, w .1)
 
+pub row-copy : (c : Core) (p : Pieces) (w : Window) → rowOf c (Copy p w) ≡ 0 → (isStarted (c .clock) ≡ true) × (c .running ≡ nobody → ⊥)
+unfolding rowOf
+row-copy c p w r =
+    let b = row-begun c _ r in
+    (b .0, row-runs c _ (b .1) .0)
+
 -- ---- and when no row applies
 
 pub start-row : (c : Core) → isStarted (c .clock) ≡ false → rowOf c Start ≡ 0
@@ -240,6 +248,19 @@ write-row c o x h i f = rw (h, ne-eqb (c .running) nobody i, f)
 pub fault-row : (c : Core) (k d : ℕ) → isStarted (c .clock) ≡ true → (c .running ≡ nobody → ⊥) → 3 ≤ k → k ≤ 5 → rowOf c (Fault k d) ≡ 0
 unfolding rowOf
 fault-row c k d h i l m = rw (h, ne-eqb (c .running) nobody i, within-of 3 5 k l m)
+
+-- R6: a Copy of the VM that runs is done, whatever it asks for
+pub copy-row : (c : Core) (p : Pieces) (w : Window) → isStarted (c .clock) ≡ true → (c .running ≡ nobody → ⊥) → rowOf c (Copy p w) ≡ 0
+unfolding rowOf
+copy-row c p w h i = rw (h, ne-eqb (c .running) nobody i)
+
+-- ---- what a Copy does, by what fails in it (D31 to D36)
+
+pub copy-case : (P : Change → Type 0) (running : ℕ) (queue : Queue) (v : ℕ) (vm : Vm) (code detail : ℕ)
+    → (code ≡ 0 → P (renewedFrom running queue v vm nobody)) → ((code ≡ 0 → ⊥) → P (failingFrom running queue v vm code detail))
+    → P (copyingFrom running queue v vm code detail)
+unfolding copyingFrom
+copy-case P running queue v vm code detail p q = pick-case P (eqb code 0) _ _ (λ h. p (eqb-true code 0 h)) (λ h. q (eqb-false code 0 h))
 
 -- ---- what a Call does, by its service (D25 to D30)
 
@@ -286,3 +307,4 @@ done-case c P s t f (Extra v) = f (Extra v) _ refl refl
 done-case c P s t f (Call k n a) = f (Call k n a) _ refl refl
 done-case c P s t f (Write o x) = f (Write o x) _ refl refl
 done-case c P s t f (Fault k d) = f (Fault k d) _ refl refl
+done-case c P s t f (Copy p w) = f (Copy p w) _ refl refl

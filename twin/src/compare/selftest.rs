@@ -73,8 +73,8 @@ fn discover_memories(seed: u64, folders: usize) -> Vec<Discovery> {
     })
 }
 
-/// Tries every wrong twin: those of runs on so many cases, those of reports, of access queries and of the window
-/// on fewer folders. Answers the text for the reader, and whether all were told apart.
+/// Tries every wrong twin: those of runs on so many cases, those of reports, of access queries and of the
+/// window on fewer folders. Answers the text for the reader, and whether all were told apart.
 pub fn selftest(seed: u64, cases: usize) -> (String, bool) {
     let reports = cases.div_ceil(CASES_TO_A_REPORT);
     let accesses = cases.div_ceil(CASES_TO_AN_ACCESS);

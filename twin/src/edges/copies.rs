@@ -1,5 +1,5 @@
-//! The fixed cases about copies (D31 to D37): the vectors, the borders of regions and window, every count, every
-//! place of a failure.
+//! The fixed cases about copies (D31 to D37): the vectors, the borders of regions and window, every count,
+//! every place of a failure.
 
 use crate::core::config::Config;
 use crate::core::event::{CopyRequest, Event, Extent};
@@ -206,8 +206,8 @@ fn refusals() -> Case {
     Case { image: image_bytes(&small(2, 2), Flaw::None), log: log_of(&events) }
 }
 
-/// Three VMs: what one may do another may not; entries of several in the queue; a copy in a spare slot; a number
-/// that is pending and enabled, and is not delivered by a copy.
+/// Three VMs: what one may do another may not; entries of several in the queue; a copy in a spare slot; a
+/// number that is pending and enabled, and is not delivered by a copy.
 fn among_others() -> Case {
     let mut config = small(3, 16);
     let shared = (0x4000_2000, 0x4000_20ff);
