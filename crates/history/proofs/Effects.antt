@@ -10,10 +10,10 @@ use Rattle.basis.specs.Nobody.{nobody}
 use Rattle.config.specs.Sizes.{isSpare}
 use Rattle.config.specs.declared.Config.{Config}
 use Rattle.event.specs.Kinds.{isRestart, isTick}
-use Rattle.event.specs.declared.Event.the-variants.{Call, Extra, Fault, Restart, Shutdown, Start, Stop, Tick, Write}
+use Rattle.event.specs.declared.Event.the-variants.{Call, Copy, Extra, Fault, Restart, Shutdown, Start, Stop, Tick, Write}
 use Rattle.event.specs.declared.Event.{Event}
 use Rattle.history.specs.History.{Moment, went}
-use Rattle.history.specs.Moments.{asks, isRequest, naming, spare}
+use Rattle.history.specs.Moments.{asks, isRequest, naming, spare, tellsError}
 use Rattle.history.specs.Queueing.{Add, Effect, Keep, Remove, Take, effect, effectBy, isRemove, ofService, removes}
 use Rattle.history.specs.Telling.{endedBy, ends, standingByCall}
 use Rattle.table.specs.Place.{tableAt}
@@ -67,6 +67,10 @@ module _ (g : Config) (m : Moment) where
       four true = refl
       four false = refl
 
+      copied : (b : Bool) → false ≡ isTake (pick b (Remove (m .before .running)) Keep)
+      copied true = refl
+      copied false = refl
+
       go : (w : Bool) (e : Event) → both (both w (isTick e)) (eqb (tableAt g (m .ticks)) nobody) ≡ isTake (pick w (effectBy g m e) Keep)
       go false e = refl
       go true Start = refl
@@ -78,6 +82,7 @@ module _ (g : Config) (m : Moment) where
       go true (Call s n at) = by-service (λ s f. false ≡ isTake f) (m .before .running) n (m .answer .result) refl refl (λ b e. two b) refl (λ b e. four b) (λ s. refl) s
       go true (Write o x) = refl
       go true (Fault k x) = refl
+      go true (Copy p w) = copied (tellsError (m .answer))
 
   -- only an accepted request adds one
   pub asks-is : (v : ℕ) → asks v m ≡ isAdd v (effect g m)
@@ -96,6 +101,10 @@ module _ (g : Config) (m : Moment) where
       four true = refl
       four false = refl
 
+      copied : (b : Bool) → false ≡ isAdd v (pick b (Remove (m .before .running)) Keep)
+      copied true = refl
+      copied false = refl
+
       go : (w : Bool) (e : Event) → both w (isRequest v (m .before) (m .answer) e) ≡ isAdd v (pick w (effectBy g m e) Keep)
       go false e = refl
       go true Start = refl
@@ -109,6 +118,7 @@ module _ (g : Config) (m : Moment) where
           refl refl (λ b e. two b) refl (λ b e. rw e (four b)) (λ s. rw (ne-eqb (suc (suc (suc (suc (suc s))))) 4 (λ e. omega arith))) s
       go true (Write o x) = refl
       go true (Fault k x) = refl
+      go true (Copy p w) = copied (tellsError (m .answer))
 
   -- the entries of a VM leave where it ends or is restarted, and nowhere else
   pub removes-is : (v : ℕ) → removes g v m ≡ ends v m
@@ -149,7 +159,11 @@ module _ (g : Config) (m : Moment) where
           (ne-eqb (suc (suc (suc (suc (suc s))))) 2 (λ e. omega arith), ne-eqb (suc (suc (suc (suc (suc s))))) 3 (λ e. omega arith), lt-leb (suc (suc (suc (suc (suc s))))) 4 (omega arith))
           (ended 4 (eqb (m .before .running) v) refl)
 
-      go : (w : Bool) (e : Event) → isRemove v (pick w (effectBy g m e) Keep) ≡ both w (either (isRestart v e) (endedBy v (m .before .running) e))
+      copied : (b : Bool) → isRemove v (pick b (Remove (m .before .running)) Keep) ≡ not (eqb (pick (both b (eqb (m .before .running) v)) 4 1) 1)
+      copied true = ended 4 (eqb (m .before .running) v) refl
+      copied false = refl
+
+      go : (w : Bool) (e : Event) → isRemove v (pick w (effectBy g m e) Keep) ≡ both w (either (isRestart v e) (endedBy v (m .before .running) (m .answer) e))
       go false e = refl
       go true Start = refl
       go true (Tick at) = tick (isSpare (tableAt g (m .ticks)))
@@ -162,3 +176,4 @@ module _ (g : Config) (m : Moment) where
           (ended 3 (eqb (m .before .running) v) refl) (λ b e. four n b) (many n) s
       go true (Write o x) = refl
       go true (Fault k x) = ended 4 (eqb (m .before .running) v) refl
+      go true (Copy p w) = copied (tellsError (m .answer))

@@ -12,13 +12,13 @@ use Rattle.config.specs.Ranges.{Given}
 use Rattle.config.specs.Sizes.{handlerAt, isSpare}
 use Rattle.config.specs.declared.Config.{Config}
 use Rattle.core.specs.Changes.{changedBy}
-use Rattle.core.specs.Events.{done, startCore, stepOf, tickClock, tickOwner, tickQueue, tickTurn}
+use Rattle.core.specs.Events.{done, failureOf, startCore, stepOf, tickClock, tickOwner, tickQueue, tickTurn}
 use Rattle.core.specs.Refusals.{refused, rowOf}
 use Rattle.core.specs.State.{full, vmAt}
 use Rattle.core.specs.declared.Core.{Core}
 use Rattle.core.specs.declared.Stepped.{Stepped}
-use Rattle.core_laws.proofs.View.{call-case, row-extra, step-case}
-use Rattle.event.specs.declared.Event.the-variants.{Call, Extra, Fault, Restart, Shutdown, Start, Stop, Tick, Write}
+use Rattle.core_laws.proofs.View.{call-case, copy-case, row-extra, step-case}
+use Rattle.event.specs.declared.Event.the-variants.{Call, Copy, Extra, Fault, Restart, Shutdown, Start, Stop, Tick, Write}
 use Rattle.event.specs.declared.Event.{Event}
 use Rattle.guest.specs.Record.{savedAt}
 use Rattle.history.proofs.Steps.{Reached, tick-owner}
@@ -98,6 +98,11 @@ module _ (g : Config) (d : Given g) (k : ℕ) (c : Core) (p : Reached g k c) whe
   done-law (Write o x) r = record { queue = refl; ran = λ z. false-true z; removed = refl }
   done-law (Fault n x) r =
       record { queue = entries-without (c .running) (c .queue); ran = λ z. false-true z; removed = refl }
+
+  done-law (Copy q w) r =
+      copy-case (λ (x : Change). Lawful g (momentOf k c (Copy q w) (changedBy c x))) (c .running) (c .queue) (c .running) (savedAt (q .next) (vmAt c (c .running))) (failureOf c w q .code) (failureOf c w q .detail)
+      (λ h. record { queue = refl; ran = λ z. false-true z; removed = refl })
+      (λ h. record { queue = entries-without (c .running) (c .queue); ran = λ z. false-true z; removed = refl })
 
   pub lawful : (e : Event) → Lawful g (moment stepOf k c e)
   lawful e = step-case c e (λ (s : Stepped). Lawful g (momentOf k c e s)) (λ n q h. refused-law e n h) (λ s r. done-law e r)

@@ -37,6 +37,10 @@ isRequest v c a e =
     pick (isExtra e) (eqb (byteOf e) v)
     (both (isCall e) (both (eqb (byteOf e) 4) (both (eqb (a .result) 0) (eqb (c .running) v))))
 
+-- A4: the answer tells that a VM went into error
+abbrev pub tellsError : Answer → Bool
+tellsError a = eqb (a .notice .kind) 3
+
 -- C9: a request of v, accepted
 unfoldable pub asks : ℕ → Moment → Bool
 asks v m = both (went m) (isRequest v (m .before) (m .answer) (m .event))

@@ -7,10 +7,10 @@ use mathlib.Core.Path.{_≡_}
 use Rattle.basis.specs.Choice.{both, pick}
 use Rattle.config.specs.Sizes.{isSpare}
 use Rattle.config.specs.declared.Config.{Config}
-use Rattle.event.specs.declared.Event.the-variants.{Call, Extra, Fault, Restart, Shutdown, Start, Stop, Tick, Write}
+use Rattle.event.specs.declared.Event.the-variants.{Call, Copy, Extra, Fault, Restart, Shutdown, Start, Stop, Tick, Write}
 use Rattle.event.specs.declared.Event.{Event}
 use Rattle.history.specs.History.{Moment, went}
-use Rattle.history.specs.Moments.{runs, spare}
+use Rattle.history.specs.Moments.{runs, spare, tellsError}
 use Rattle.queue.specs.Entries.{entries, entriesOf, others, rest}
 use Rattle.table.specs.Place.{tableAt}
 
@@ -26,7 +26,7 @@ ofService v service argument result =
     (pick (eqb service 4) (pick (eqb result 0) (Add v) Keep)
     (Remove v)))
 
--- D7, D14, D18, D20, D23: what each event does to the queue
+-- D7, D14, D18, D20, D23, D33, D34: what each event does to the queue; a Copy that fails is told as an error (A4)
 abbrev pub effectBy : Config → Moment → Event → Effect
 effectBy g m Start = Keep
 effectBy g m (Tick at) = pick (isSpare (tableAt g (m .ticks))) Take Keep
@@ -37,6 +37,7 @@ effectBy g m (Extra v) = Add v
 effectBy g m (Call s n at) = ofService (m .before .running) s n (m .answer .result)
 effectBy g m (Write o x) = Keep
 effectBy g m (Fault k d) = Remove (m .before .running)
+effectBy g m (Copy p w) = pick (tellsError (m .answer)) (Remove (m .before .running)) Keep
 
 unfoldable pub effect : Config → Moment → Effect
 effect g m = pick (went m) (effectBy g m (m .event)) Keep

@@ -5,12 +5,14 @@ use mathlib.Core.Bool.{Bool, not}
 use mathlib.Core.List.{List, [], _∷_}
 use Rattle.basis.specs.Choice.{both, either, pick}
 use Rattle.basis.specs.Nobody.{nobody}
+use Rattle.change.specs.declared.Answer.{Answer}
 use Rattle.config.specs.Sizes.{isSpare}
 use Rattle.config.specs.declared.Config.{Config}
 use Rattle.event.specs.Kinds.{isRestart, isStart}
-use Rattle.event.specs.declared.Event.the-variants.{Call, Extra, Fault, Restart, Shutdown, Start, Stop, Tick, Write}
+use Rattle.event.specs.declared.Event.the-variants.{Call, Copy, Extra, Fault, Restart, Shutdown, Start, Stop, Tick, Write}
 use Rattle.event.specs.declared.Event.{Event}
 use Rattle.history.specs.History.{Moment, told, went}
+use Rattle.history.specs.Moments.{tellsError}
 use Rattle.history.specs.Queueing.{affected, effect}
 use Rattle.queue.specs.Entries.{frontOf}
 
@@ -28,32 +30,33 @@ standingByCall service argument t =
     (pick (eqb service 3) 3
     (pick (leb service 4) t 4))
 
--- D1, D14, D18, D23: the standing of v after an event that is done, where it was t and VM r was running
-abbrev pub standingBy : ℕ → ℕ → Event → ℕ → ℕ
-standingBy v r Start t = 1
-standingBy v r (Tick at) t = t
-standingBy v r (Stop w) t = pick (eqb w v) 2 t
-standingBy v r (Shutdown w) t = t
-standingBy v r (Restart w) t = pick (eqb w v) 1 t
-standingBy v r (Extra w) t = t
-standingBy v r (Call s n at) t = pick (eqb r v) (standingByCall s n t) t
-standingBy v r (Write o x) t = t
-standingBy v r (Fault k d) t = pick (eqb r v) 4 t
+-- D1, D14, D18, D23, D33, D34: the standing of v after an event that is done with answer a, where it was t and VM r was running
+abbrev pub standingBy : ℕ → ℕ → Answer → Event → ℕ → ℕ
+standingBy v r a Start t = 1
+standingBy v r a (Tick at) t = t
+standingBy v r a (Stop w) t = pick (eqb w v) 2 t
+standingBy v r a (Shutdown w) t = t
+standingBy v r a (Restart w) t = pick (eqb w v) 1 t
+standingBy v r a (Extra w) t = t
+standingBy v r a (Call s n at) t = pick (eqb r v) (standingByCall s n t) t
+standingBy v r a (Write o x) t = t
+standingBy v r a (Fault k d) t = pick (eqb r v) 4 t
+standingBy v r a (Copy p w) t = pick (both (tellsError a) (eqb r v)) 4 t
 
 unfoldable pub standingAfter : ℕ → Moment → ℕ → ℕ
-standingAfter v m t = pick (went m) (standingBy v (m .before .running) (m .event) t) t
+standingAfter v m t = pick (went m) (standingBy v (m .before .running) (m .answer) (m .event) t) t
 
 -- T3: none before Start; then by the last accepted event that names v or that v made
 abbrev pub standingIn : ℕ → List Moment → ℕ
 standingIn v ms = told (standingAfter v) 0 ms
 
--- an event takes v out of ready, where r was running
-abbrev pub endedBy : ℕ → ℕ → Event → Bool
-endedBy v r e = not (eqb (standingBy v r e 1) 1)
+-- an event with answer a takes v out of ready, where r was running
+abbrev pub endedBy : ℕ → ℕ → Answer → Event → Bool
+endedBy v r a e = not (eqb (standingBy v r a e 1) 1)
 
 -- v is stopped, shut down, in error, or restarted
 unfoldable pub ends : ℕ → Moment → Bool
-ends v m = both (went m) (either (isRestart v (m .event)) (endedBy v (m .before .running) (m .event)))
+ends v m = both (went m) (either (isRestart v (m .event)) (endedBy v (m .before .running) (m .answer) (m .event)))
 
 -- ---- started: 1 from the accepted Start on
 
