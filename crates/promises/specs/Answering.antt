@@ -10,11 +10,12 @@ use Rattle.config.specs.declared.Config.{Config}
 use Rattle.core.specs.State.{vmAt}
 use Rattle.core.specs.declared.Core.{Core}
 use Rattle.event.specs.Kinds.{byteOf, isCall}
-use Rattle.event.specs.declared.Event.the-variants.{Call, Extra, Fault, Restart, Shutdown, Start, Stop, Tick, Write}
+use Rattle.event.specs.declared.Event.the-variants.{Call, Copy, Extra, Fault, Restart, Shutdown, Start, Stop, Tick, Write}
 use Rattle.event.specs.declared.Event.{Event}
 use Rattle.history.specs.History.{AtEachEvent, Behaviour, Moment, went}
 use Rattle.history.specs.Queueing.{effect, removedFrom, removes}
 use Rattle.history.specs.Telling.{queueIn}
+use Rattle.promises.specs.Copying.{failureFor}
 
 -- A4: no notice (0), stopped by the master (1), shut down by itself (2), in error (3)
 abbrev pub noticed : ℕ → ℕ → ℕ → ℕ → Notice
@@ -23,20 +24,21 @@ noticed kind v code detail = record { kind = kind; vm = v; code = code; detail =
 abbrev pub noNotice : Notice
 noNotice = noticed 0 0 0 0
 
--- A4, A5: the notice of an event that is done, where VM r was running
-abbrev pub noticeBy : ℕ → Event → Notice
-noticeBy r Start = noNotice
-noticeBy r (Tick at) = noNotice
-noticeBy r (Stop v) = noticed 1 v 0 0
-noticeBy r (Shutdown v) = noNotice
-noticeBy r (Restart v) = noNotice
-noticeBy r (Extra v) = noNotice
-noticeBy r (Call s n at) =
-    pick (eqb s 2) (pick (leb n 31) noNotice (noticed 3 r 2 n))
-    (pick (eqb s 3) (noticed 2 r 0 0)
-    (pick (leb s 4) noNotice (noticed 3 r 1 s)))
-noticeBy r (Write o x) = noNotice
-noticeBy r (Fault k d) = noticed 3 r k d
+-- A4, A5: the notice of an event that is done, in the state c
+abbrev pub noticeBy : Core → Event → Notice
+noticeBy c Start = noNotice
+noticeBy c (Tick at) = noNotice
+noticeBy c (Stop v) = noticed 1 v 0 0
+noticeBy c (Shutdown v) = noNotice
+noticeBy c (Restart v) = noNotice
+noticeBy c (Extra v) = noNotice
+noticeBy c (Call s n at) =
+    pick (eqb s 2) (pick (leb n 31) noNotice (noticed 3 (c .running) 2 n))
+    (pick (eqb s 3) (noticed 2 (c .running) 0 0)
+    (pick (leb s 4) noNotice (noticed 3 (c .running) 1 s)))
+noticeBy c (Write o x) = noNotice
+noticeBy c (Fault k d) = noticed 3 (c .running) k d
+noticeBy c (Copy p w) = pick (eqb (failureFor c w p .code) 0) noNotice (noticed 3 (c .running) (failureFor c w p .code) (failureFor c w p .detail))
 
 -- A6: 1 for a Call for extra time that finds the queue full, and else 0
 abbrev pub resultBy : Core → Event → ℕ
@@ -46,7 +48,7 @@ resultBy c e = pick (both (isCall e) (both (eqb (byteOf e) 4) (leb (c .config .r
 pub record TellsOf (g : Config) (ms : List Moment) (m : Moment) : Type 0 where
   pub running : m .answer .running ≡ m .after .running
   pub address : m .answer .address ≡ vmAt (m .after) (m .after .running) .address
-  pub notice : went m ≡ true → m .answer .notice ≡ noticeBy (m .before .running) (m .event)
+  pub notice : went m ≡ true → m .answer .notice ≡ noticeBy (m .before) (m .event)
   pub result : went m ≡ true → m .answer .result ≡ resultBy (m .before) (m .event)
 
 abbrev pub Tells : Behaviour → Type 0

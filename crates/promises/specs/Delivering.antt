@@ -11,7 +11,7 @@ use Rattle.config.specs.Sizes.{handlerAt}
 use Rattle.config.specs.declared.Config.{Config}
 use Rattle.core.specs.State.{vmAt}
 use Rattle.core.specs.declared.Core.{Core}
-use Rattle.event.specs.declared.Event.the-variants.{Call, Extra, Fault, Restart, Shutdown, Start, Stop, Tick, Write}
+use Rattle.event.specs.declared.Event.the-variants.{Call, Copy, Extra, Fault, Restart, Shutdown, Start, Stop, Tick, Write}
 use Rattle.event.specs.declared.Event.{Event}
 use Rattle.guest.specs.Bits.{clearBit, setBit}
 use Rattle.guest.specs.declared.Vm.{Vm}
@@ -104,6 +104,12 @@ pub record DeliversNot (v : ℕ) (m : Moment) : Type 0 where
   pub waits : vmAt (m .after) v .status .pending ≡ setBit 11 (vmAt (m .before) v .status .pending)
   pub address : vmAt (m .after) v .address ≡ vmAt (m .before) v .address
 
+-- D36: a Copy delivers nothing
+pub record DeliversAtCopy (next : ℕ) (m : Moment) : Type 0 where
+  pub never : m .answer .delivered ≡ 255
+  -- D31: the next address is stored, for a VM that the Copy ends too
+  pub saved : vmAt (m .after) (m .before .running) .address ≡ next
+
 -- D13, D22: at no other moment
 abbrev pub DeliversBy : Config → Moment → Event → Type 0
 DeliversBy g m Start = m .answer .delivered ≡ 255
@@ -115,6 +121,7 @@ DeliversBy g m (Extra v) = m .answer .delivered ≡ 255
 DeliversBy g m (Call s n at) = DeliversAtCall g s n at m
 DeliversBy g m (Write o x) = m .answer .delivered ≡ 255
 DeliversBy g m (Fault k d) = m .answer .delivered ≡ 255
+DeliversBy g m (Copy p w) = DeliversAtCopy (p .next) m
 
 pub record DeliversOf (g : Config) (ms : List Moment) (m : Moment) : Type 0 where
   pub refused : went m ≡ false → m .answer .delivered ≡ 255

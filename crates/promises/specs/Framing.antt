@@ -8,7 +8,7 @@ use Rattle.basis.specs.Choice.{both, either}
 use Rattle.config.specs.Sizes.{entryAt}
 use Rattle.config.specs.declared.Config.{Config}
 use Rattle.core.specs.State.{vmAt}
-use Rattle.event.specs.declared.Event.the-variants.{Call, Extra, Fault, Restart, Shutdown, Start, Stop, Tick, Write}
+use Rattle.event.specs.declared.Event.the-variants.{Call, Copy, Extra, Fault, Restart, Shutdown, Start, Stop, Tick, Write}
 use Rattle.event.specs.declared.Event.{Event}
 use Rattle.guest.specs.declared.Status.{Status}
 use Rattle.guest.specs.declared.Vm.{Vm}
@@ -123,6 +123,7 @@ namesBy v m (Extra w) f = false
 namesBy v m (Call s n at) f = both (eqb (m .before .running) v) (either (ofCall s n f) (both (ofDelivery f) (delivers m)))
 namesBy v m (Write o x) f = both (eqb (m .before .running) v) (eqb o (offsetOf f))
 namesBy v m (Fault k d) f = false
+namesBy v m (Copy p w) f = false
 
 -- the events that name the run address of v
 abbrev pub movesBy : ℕ → Moment → Event → Bool
@@ -135,6 +136,7 @@ movesBy v m (Extra w) = false
 movesBy v m (Call s n at) = eqb (m .before .running) v
 movesBy v m (Write o x) = false
 movesBy v m (Fault k d) = false
+movesBy v m (Copy p w) = eqb (m .before .running) v
 
 -- D9, D16, D17, D22: no field and no address moves that an accepted event does not name
 pub record FrameOf (g : Config) (ms : List Moment) (m : Moment) : Type 0 where

@@ -1,4 +1,5 @@
 pub mod Refusing
+pub mod Copying
 pub mod Answering
 pub mod Timing
 pub mod Delivering

@@ -10,7 +10,7 @@ use Rattle.core.specs.Sound.{sound}
 use Rattle.core.specs.State.{vmAt}
 use Rattle.core.specs.declared.Core.{Core}
 use Rattle.core.specs.declared.Stepped.{Stepped}
-use Rattle.event.specs.declared.Event.the-variants.{Call, Extra, Fault, Restart, Shutdown, Start, Stop, Tick, Write}
+use Rattle.event.specs.declared.Event.the-variants.{Call, Copy, Extra, Fault, Restart, Shutdown, Start, Stop, Tick, Write}
 use Rattle.event.specs.declared.Event.{Event}
 use Rattle.history.specs.History.{AtEachState, Behaviour}
 
@@ -44,6 +44,7 @@ linesBy c (Extra v) = notStarted c ∷ noSuchVm c v ∷ notReady c v ∷ line (l
 linesBy c (Call s n at) = notStarted c ∷ nobodyRuns c ∷ []
 linesBy c (Write o x) = notStarted c ∷ nobodyRuns c ∷ line (not (both (eqb (o % 4) 0) (leb o 36))) 8 ∷ []
 linesBy c (Fault k d) = notStarted c ∷ nobodyRuns c ∷ line (not (both (leb 3 k) (leb k 5))) 9 ∷ []
+linesBy c (Copy p w) = notStarted c ∷ nobodyRuns c ∷ []
 
 -- R1: of every event, first of all
 unfoldable pub linesOf : Core → Event → List Line

@@ -33,7 +33,7 @@ pub record RunsOf (g : Config) (ms : List Moment) (m : Moment) : Type 0 where
   pub tick : ticking m ≡ true → m .after .running ≡ chosenIn g (tableAt g (m .ticks)) ms
   -- D2, D15, D19, D23, D28: at any other event the same VM, or nobody where the event ended it
   pub other : went m ≡ true → isTick (m .event) ≡ false
-      → m .after .running ≡ pick (endedBy (m .before .running) (m .before .running) (m .event)) 255 (m .before .running)
+      → m .after .running ≡ pick (endedBy (m .before .running) (m .before .running) (m .answer) (m .event)) 255 (m .before .running)
 
 abbrev pub Runs : Behaviour → Type 0
 Runs = AtEachEvent RunsOf
