@@ -63,6 +63,11 @@ static inline core_regions make_regions(layout l, unsigned vms, unsigned count, 
     return r;
 }
 
+/* One region, which lets VM 0 read and write the whole window of a log (L6). */
+static inline core_regions whole_window(void) {
+    return (core_regions){.count = 1, .permissions = {CORE_MAY_WRITE}, .starts = {0x40000000}, .lasts = {0x40003fff}};
+}
+
 static inline size_t put_regions(uint8_t *b, const core_regions *r) {
     for (unsigned k = 0; k < r->count; k++, b += 11) {
         memcpy(b, (uint8_t[]){5, r->holders[k], r->permissions[k]}, 3);

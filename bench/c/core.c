@@ -1,4 +1,4 @@
-/* The core in C, in place: whether a state is sound, what is refused, and what each event does. */
+/* The core in C, in place: whether a state is sound, what is refused, and what each event does, with the bytes of a Copy. */
 #include "core.h"
 
 #include <string.h>
@@ -326,4 +326,51 @@ core_answer trusting(core_state *c, core_input e) {
 core_answer checked(core_state *c, core_input e) {
     if (!sound(c)) return (core_answer){.refusal = 1, .running = CORE_NONE, .delivered = CORE_NONE};
     return trusting(c, e);
+}
+
+/* D32, with no sum that wraps. */
+static bool inside(uint32_t address, uint32_t n, size_t size, uint32_t base) {
+    uint32_t from = address - base;
+    return address >= base && from <= size && n <= size - from;
+}
+
+/* D33, D34: the code of the first failure with its data, or 0. */
+static uint8_t failure(const core_regions *r, uint8_t vm, const pieces *p, size_t size, uint32_t base, uint32_t *data) {
+    unsigned count = p->count;
+    *data = count;
+    if (count > MOST_EXTENTS) return 6;
+    for (const extent *x = p->extents, *end = x + count; x < end; x++) {
+        uint32_t n = x->length;
+        if (n == 0) continue;
+        *data = n;
+        if (n > LONGEST_EXTENT) return 7;
+        *data = x->source;
+        if (!inside(x->source, n, size, base) || !granted(r, vm, x->source, n, CORE_TO_READ)) return 3;
+        *data = x->destination;
+        if (!inside(x->destination, n, size, base) || !granted(r, vm, x->destination, n, CORE_TO_WRITE)) return 3;
+    }
+    return 0;
+}
+
+/* D36, for extents that were checked; one of length 0 may have any addresses. */
+static void move(const pieces *p, uint8_t *memory, uint32_t base) {
+    for (const extent *x = p->extents, *end = x + p->count; x < end; x++)
+        if (x->length) memmove(memory + (x->destination - base), memory + (x->source - base), x->length);
+}
+
+/* D31 to D37. */
+core_answer trusting_copy(core_state *c, const pieces *p, uint8_t *memory, size_t size, uint32_t base) {
+    if (!c->clock.started) return answer(c, 2);
+    if (c->running == CORE_NONE) return answer(c, 5);
+    uint32_t data;
+    c->vms[c->running].address = p->next;
+    uint8_t code = failure(&c->config.regions, c->running, p, size, base, &data);
+    if (code) return in_error(c, code, data);
+    if (memory) move(p, memory, base);
+    return answer(c, 0);
+}
+
+core_answer checked_copy(core_state *c, const pieces *p, uint8_t *memory, size_t size, uint32_t base) {
+    if (!sound(c)) return (core_answer){.refusal = 1, .running = CORE_NONE, .delivered = CORE_NONE};
+    return trusting_copy(c, p, memory, size, base);
 }

@@ -8,10 +8,25 @@
 
 #include "gerstendocht.h"
 
+/* A Copy: its kind in a log (E13), the limits of what it asks for (S10), and where the window of a log lies (L6). */
+enum { COPY = 0x1a, MOST_EXTENTS = 8, LONGEST_EXTENT = 256, WINDOW_BASE = 0x40000000, WINDOW_SIZE = 16384 };
+
+typedef struct extent {
+    uint32_t source, destination, length;
+} extent;
+
+typedef struct pieces {
+    uint8_t count;
+    uint32_t next;
+    extent extents[MOST_EXTENTS];
+} pieces;
+
 /* core.c */
 bool sound(const core_state *c);                             /* W1 to W13 */
 core_answer trusting(core_state *c, core_input e);           /* an event, in place, on a state that is sound */
 core_answer checked(core_state *c, core_input e);            /* the test, then the event */
+core_answer trusting_copy(core_state *c, const pieces *p, uint8_t *memory, size_t size, uint32_t base);   /* a Copy; null: its bytes stay */
+core_answer checked_copy(core_state *c, const pieces *p, uint8_t *memory, size_t size, uint32_t base);
 bool legal(const core_config *c);                            /* S1 to S7, H1 to H6 */
 bool clashes(const core_regions *r, unsigned k);             /* H6 broken by region k and an earlier one */
 bool allows(const core_config *c, uint8_t vm, uint32_t address, uint32_t length, uint8_t way);   /* H8 to H11 */
@@ -26,6 +41,7 @@ uint8_t write_image(const core_config *c, uint8_t *b, size_t room, size_t *size)
 enum { LONGEST_LOG = 60000 };                                /* S9 */
 enum { IMAGE_ROOM = 4096, LOG_ROOM = 65536 };                /* as much of a file as is read: more than decides */
 size_t decode(const uint8_t *b, size_t n, core_input *e);    /* the width of the record in front; 0: cut or unknown (L4) */
+core_answer run_record(core_state *c, core_input e, const uint8_t *record, uint8_t *memory);   /* what was decoded; a Copy too (L6) */
 int read_file(const char *name, uint8_t *b, size_t room);    /* the bytes read; -1: does not open */
 size_t read_all(int file, uint8_t *b, size_t room);
 void write_all(const uint8_t *b, size_t n);
@@ -37,9 +53,11 @@ uint8_t *put_answer(uint8_t *p, uint32_t number, const core_answer *a);         
 uint8_t *put_refused(uint8_t *p, uint8_t fault, size_t offset);                    /* N5 */
 uint8_t *put_state(uint8_t *p, const core_answer *a, const core_state *c);         /* N9 */
 uint8_t *put_image(uint8_t *p, const uint8_t *b, size_t n);                        /* N10 */
+uint8_t *put_window(uint8_t *p, const uint8_t *memory);                            /* N27 */
 
 /* replay.c */
-void print_run(const uint8_t *image, size_t m, const uint8_t *log, size_t n, bool states); /* N1 to N9 */
-void run_files(bool states);
+/* N1 to N9, and where there is a memory N26 to N28 */
+void print_run(const uint8_t *image, size_t m, const uint8_t *log, size_t n, bool states, uint8_t *memory);
+void run_files(bool states, uint8_t *memory);
 
 #endif

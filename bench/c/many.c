@@ -17,7 +17,7 @@ int main(void) {
         if (got == 0) return 0;
         size_t m = head[0] | (size_t)head[1] << 8, n = head[2] | (size_t)head[3] << 8;
         if (got < sizeof head || read_all(0, image, m) < m || read_all(0, log, n) < n) break;
-        print_run(image, m, log, n, true);
+        print_run(image, m, log, n, true, NULL);
         print_again(image, m);
         write_all((const uint8_t *)".\n", 2);
     }

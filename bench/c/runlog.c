@@ -2,6 +2,6 @@
 #include "core.h"
 
 int main(void) {
-    run_files(false);
+    run_files(false, NULL);
     return 0;
 }

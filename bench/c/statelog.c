@@ -2,6 +2,6 @@
 #include "core.h"
 
 int main(void) {
-    run_files(true);
+    run_files(true, NULL);
     return 0;
 }

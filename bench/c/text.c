@@ -104,9 +104,27 @@ uint8_t *put_state(uint8_t *p, const core_answer *a, const core_state *c) {
     return p;
 }
 
-uint8_t *put_image(uint8_t *p, const uint8_t *b, size_t n) {
-    p = put_text(p, "image ");
+/* The bytes, two digits each, to the end of the line. */
+static uint8_t *put_bytes(uint8_t *p, const uint8_t *b, size_t n) {
     for (size_t k = 0; k < n; k++, p += 2) put_pair(p, bytes, b[k]);
     *p = '\n';
     return p + 1;
+}
+
+uint8_t *put_image(uint8_t *p, const uint8_t *b, size_t n) {
+    p = put_text(p, "image ");
+    return put_bytes(p, b, n);
+}
+
+enum { ROW = 32 }; /* so many bytes of the window make a line */
+
+uint8_t *put_window(uint8_t *p, const uint8_t *memory) {
+    for (uint32_t at = 0; at < WINDOW_SIZE; at += ROW) {
+        static const uint8_t none[ROW];
+        if (memcmp(memory + at, none, ROW) == 0) continue;
+        p = put_hex(put_text(p, "memory "), WINDOW_BASE + at);
+        *p = ' ';
+        p = put_bytes(p + 1, memory + at, ROW);
+    }
+    return p;
 }

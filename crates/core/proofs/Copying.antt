@@ -27,7 +27,7 @@ use Rattle.window.specs.declared.Window.{Window}
 
 module _ (c : Core) (p : Pieces) (w : Window) (s : Stepped) (is : s ≡ stepOf c (Copy p w)) where
   -- R1: the answer tells the refusal
-  refusal-told : s .answer .refusal ≡ refusalOf c (Copy p w)
+  pub refusal-told : s .answer .refusal ≡ refusalOf c (Copy p w)
   unfolding stepOf refused done
   refusal-told = ap (λ (x : Stepped). x .answer .refusal) is ∙ go (eqb (refusalOf c (Copy p w)) 0) refl
     where
@@ -36,7 +36,7 @@ module _ (c : Core) (p : Pieces) (w : Window) (s : Stepped) (is : s ≡ stepOf c
       go false e = refl
 
   -- A4: and notice 3 where a Copy that is done fails
-  notice-told : refusalOf c (Copy p w) ≡ 0 → s .answer .notice .kind ≡ pick (eqb (failureOf c w p .code) 0) 0 3
+  pub notice-told : refusalOf c (Copy p w) ≡ 0 → s .answer .notice .kind ≡ pick (eqb (failureOf c w p .code) 0) 0 3
   unfolding stepOf done copyingFrom
   notice-told h = ap (λ (x : Stepped). x .answer .notice .kind) is ∙ rw (eq-eqb (refusalOf c (Copy p w)) 0 h) (go (eqb (failureOf c w p .code) 0))
     where

@@ -6,3 +6,4 @@ pub mod Fresh
 pub mod Events
 pub mod Always
 pub mod Unique
+pub mod Copying

@@ -10,6 +10,7 @@ pub mod Tracing
 pub mod Running
 pub mod Framing
 pub mod Removing
+pub mod Copying
 pub mod Accounts
 pub mod Slices
 pub mod Waiting

@@ -5,3 +5,4 @@ pub mod Alike
 pub mod One
 pub mod Runs
 pub mod Ours
+pub mod Bytes

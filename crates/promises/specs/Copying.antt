@@ -2,7 +2,7 @@
 use Prim.Native.Nat.{ℕ}
 use lib.ListN.{take}
 use mathlib.Core.Bool.{Bool, false, not, true}
-use mathlib.Core.List.{List}
+use mathlib.Core.List.{List, [], _∷_}
 use mathlib.Core.Path.{_≡_}
 use Rattle.basis.specs.Choice.{both}
 use Rattle.config.specs.Sizes.{access}
@@ -40,3 +40,8 @@ pub record CopiesOf (t : Copier) (g : Config) (ms : List Moment) (m : Moment) : 
 -- whatever the events were; the core is a behaviour, and what it does to the bytes stands beside it (D37)
 abbrev pub Copies : Copier → Behaviour → Type 0
 Copies t = AtEachEvent (CopiesOf t)
+
+-- the bytes of a window after the events es, from the state c on
+unfoldable pub bytesAfter : Behaviour → Copier → Core → List Event → List ℕ → List ℕ
+bytesAfter b t c [] bytes = bytes
+bytesAfter b t c (e ∷ es) bytes = bytesAfter b t (b c e .core) es (t c e bytes)

@@ -19,13 +19,13 @@ use Rattle.config.specs.Ranges.{Given}
 use Rattle.config.specs.Sizes.{entryAt, handlerAt}
 use Rattle.config.specs.declared.Config.{Config}
 use Rattle.core.specs.Changes.{changedBy, ending, failing, queueing, renewed}
-use Rattle.core.specs.Events.{called, done, stepOf, tickTurn}
+use Rattle.core.specs.Events.{called, copying, done, failureOf, stepOf, tickTurn}
 use Rattle.core.specs.Refusals.{refused, rowOf}
 use Rattle.core.specs.State.{freshCore, full, vmAt}
 use Rattle.core.specs.declared.Core.{Core}
 use Rattle.core.specs.declared.Stepped.{Stepped}
-use Rattle.core_laws.proofs.View.{call-case, row-restart, step-case}
-use Rattle.event.specs.declared.Event.the-variants.{Call, Extra, Fault, Restart, Shutdown, Start, Stop, Tick, Write}
+use Rattle.core_laws.proofs.View.{call-case, copy-case, row-restart, step-case}
+use Rattle.event.specs.declared.Event.the-variants.{Call, Copy, Extra, Fault, Restart, Shutdown, Start, Stop, Tick, Write}
 use Rattle.event.specs.declared.Event.{Event}
 use Rattle.guest.proofs.Facts.{deliver-age, deliver-ran, pend-age, pend-ran, write-age, write-ran}
 use Rattle.guest.specs.Deliver.{backFrom, deliver}
@@ -133,6 +133,12 @@ module _ (f : Vm → ℕ) (steady : Steady f) (g : Config) (d : Given g) (v : �
     done-grown (Write o x) r = quiet-law (momentOf k c (Write o x) (done c (Write o x))) refl refl refl (change-keeps f c v (renewed c (c .running) (write o x (vmAt c (c .running))) nobody) (steady .wrote o x (vmAt c (c .running))))
     done-grown (Fault n x) r = quiet-law (momentOf k c (Fault n x) (done c (Fault n x))) refl refl refl (change-keeps f c v (failing c (c .running) (vmAt c (c .running)) n x) (steady .ended 4 (vmAt c (c .running))))
 
+    done-grown (Copy q w) r =
+        quiet-law (momentOf k c (Copy q w) (done c (Copy q w))) refl refl refl
+        (change-keeps f c v (copying c w q)
+        (copy-case (λ (x : Change). f (x .vm) ≡ f (vmAt c (x .place))) (c .running) (c .queue) (c .running) (savedAt (q .next) (vmAt c (c .running))) (failureOf c w q .code) (failureOf c w q .detail)
+        (λ h. steady .saved (q .next) (vmAt c (c .running))) (λ h. steady .ended 4 _ ∙ steady .saved (q .next) (vmAt c (c .running)))))
+
     step-grown : (e : Event) → f (vmAt (stepOf c e .core) v) ≡ grown (moment stepOf k c e)
     unfolding refused begins
     step-grown e =
@@ -223,3 +229,4 @@ ours-shows g d es (Extra w) v low h = no-tick (went (next stepOf g es (Extra w))
 ours-shows g d es (Call i n at) v low h = no-tick (went (next stepOf g es (Call i n at))) _ h
 ours-shows g d es (Write o x) v low h = no-tick (went (next stepOf g es (Write o x))) _ h
 ours-shows g d es (Fault i x) v low h = no-tick (went (next stepOf g es (Fault i x))) _ h
+ours-shows g d es (Copy q w) v low h = no-tick (went (next stepOf g es (Copy q w))) _ h

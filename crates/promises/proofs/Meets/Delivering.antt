@@ -16,7 +16,7 @@ use Rattle.config.specs.Ranges.{Given}
 use Rattle.config.specs.Sizes.{handlerAt}
 use Rattle.config.specs.declared.Config.{Config}
 use Rattle.core.specs.Changes.{changedBy}
-use Rattle.core.specs.Events.{called, done, stepOf, tickClock, tickTurn}
+use Rattle.core.specs.Events.{called, copying, done, failureOf, stepOf, tickClock, tickTurn}
 use Rattle.core.specs.Refusals.{refused, rowOf}
 use Rattle.core.specs.Sound.{sound}
 use Rattle.core.specs.State.{full, vmAt}
@@ -24,8 +24,8 @@ use Rattle.core.specs.declared.Core.{Core}
 use Rattle.core.specs.declared.Stepped.{Stepped}
 use Rattle.core_laws.proofs.Facts.{running-below, sound-is}
 use Rattle.core_laws.proofs.Refused.{done-number}
-use Rattle.core_laws.proofs.View.{call-case, row-call, row-shutdown, step-case}
-use Rattle.event.specs.declared.Event.the-variants.{Call, Extra, Fault, Restart, Shutdown, Start, Stop, Tick, Write}
+use Rattle.core_laws.proofs.View.{call-case, copy-case, row-call, row-copy, row-shutdown, step-case}
+use Rattle.event.specs.declared.Event.the-variants.{Call, Copy, Extra, Fault, Restart, Shutdown, Start, Stop, Tick, Write}
 use Rattle.event.specs.declared.Event.{Event}
 use Rattle.guest.proofs.Facts.{deliver-hit, deliver-quiet, pend-address, pend-enabled, pend-pending}
 use Rattle.guest.specs.Bits.{clearBit}
@@ -168,6 +168,22 @@ module _ (g : Config) (d : Given g) (k : ℕ) (c : Core) (p : Reached g k c) whe
   done-delivers (Call x n at) s r = call-delivers x n at (running-below c (p .shaped .records) (sound-is c s) (row-call c x n at r .1))
   done-delivers (Write o x) s r = refl
   done-delivers (Fault n x) s r = refl
+
+  done-delivers (Copy q w) s r = record { never = both .0; saved = both .1 }
+    where
+      Passes : Change → Type 0
+      Passes x = (x .delivered ≡ nobody) × (vmAt (changedBy c x .core) (c .running) .address ≡ q .next)
+
+      vm : Vm
+      vm = savedAt (q .next) (vmAt c (c .running))
+
+      stays : (y : Vm) → y .address ≡ q .next → getD (set (c .vms) (c .running) y) (c .running) fresh .address ≡ q .next
+      stays y e = ap (λ (x : Vm). x .address) (stored-at (c .running) y (running-below c (p .shaped .records) (sound-is c s) (row-copy c q w r .1))) ∙ e
+
+      both : Passes (copying c w q)
+      both =
+          copy-case Passes (c .running) (c .queue) (c .running) vm (failureOf c w q .code) (failureOf c w q .detail)
+          (λ h. (refl, stays vm refl)) (λ h. (refl, stays (endedAs 4 vm) refl))
 
   step-delivers : (ms : List Moment) (e : Event) → DeliversOf g ms (moment stepOf k c e)
   unfolding refused

@@ -15,15 +15,15 @@ use Rattle.config.specs.Ranges.{Given}
 use Rattle.config.specs.Sizes.{handlerAt}
 use Rattle.config.specs.declared.Config.{Config}
 use Rattle.core.specs.Changes.{changedBy}
-use Rattle.core.specs.Events.{done, stepOf, tickClock, tickTurn}
+use Rattle.core.specs.Events.{done, failureOf, stepOf, tickClock, tickTurn}
 use Rattle.core.specs.Refusals.{rowOf}
 use Rattle.core.specs.Sound.{sound}
 use Rattle.core.specs.State.{full, vmAt}
 use Rattle.core.specs.declared.Core.{Core}
 use Rattle.core.specs.declared.Stepped.{Stepped}
 use Rattle.core_laws.proofs.Facts.{running-below, sound-is}
-use Rattle.core_laws.proofs.View.{call-case, row-call, row-restart, row-shutdown, row-write}
-use Rattle.event.specs.declared.Event.the-variants.{Call, Extra, Fault, Restart, Shutdown, Start, Stop, Tick, Write}
+use Rattle.core_laws.proofs.View.{call-case, copy-case, row-call, row-copy, row-restart, row-shutdown, row-write}
+use Rattle.event.specs.declared.Event.the-variants.{Call, Copy, Extra, Fault, Restart, Shutdown, Start, Stop, Tick, Write}
 use Rattle.event.specs.declared.Event.{Event}
 use Rattle.guest.proofs.Facts.{pend-address, write-address}
 use Rattle.guest.proofs.Laws.{due-few}
@@ -202,6 +202,10 @@ module _ (g : Config) (d : Given g) (k : ℕ) (c : Core) (p : Reached g k c) whe
       put-part (λ y. valueOf f (y .status)) (c .running) _ v (runner-low s (row-write c o x r .1)) (λ e. write-field f o x (vmAt c (c .running)) ∙ rw (both-off (eqb (c .running) v) _ h e))
   done-field (Fault i x) s r v l f h = keeps-field (c .running) v _ f refl
 
+  done-field (Copy q w) s r v l f h =
+      copy-case (λ (x : Change). valueOf f (vmAt (changedBy c x .core) v .status) ≡ valueOf f (vmAt c v .status)) (c .running) (c .queue) (c .running) (savedAt (q .next) (vmAt c (c .running))) (failureOf c w q .code) (failureOf c w q .detail)
+      (λ i. keeps-field (c .running) v _ f refl) (λ i. keeps-field (c .running) v _ f refl)
+
   done-address : (e : Event) → sound c ≡ true → rowOf c e ≡ 0 → (v : ℕ) → v < g .count → movesBy v (momentOf k c e (done c e)) e ≡ false → vmAt (done c e .core) v .address ≡ vmAt c v .address
   unfolding done
   done-address Start s r v l h = false-true (sym h)
@@ -213,6 +217,13 @@ module _ (g : Config) (d : Given g) (k : ℕ) (c : Core) (p : Reached g k c) whe
   done-address (Call i n at) s r v l h = call-address i n at v (runner-low s (row-call c i n at r .1)) h
   done-address (Write o x) s r v l h = store-keeps (λ y. y .address) (c .vms) (c .running) _ (write-address o x (vmAt c (c .running))) v
   done-address (Fault i x) s r v l h = store-keeps (λ y. y .address) (c .vms) (c .running) _ refl v
+
+  done-address (Copy q w) s r v l h =
+      copy-case (λ (x : Change). vmAt (changedBy c x .core) v .address ≡ vmAt c v .address) (c .running) (c .queue) (c .running) (savedAt (q .next) (vmAt c (c .running))) (failureOf c w q .code) (failureOf c w q .detail)
+      (λ i. out _) (λ i. out _)
+    where
+      out : (y : Vm) → getD (set (c .vms) (c .running) y) v fresh .address ≡ vmAt c v .address
+      out y = put-part (λ x. x .address) (c .running) y v (runner-low s (row-copy c q w r .1)) (λ e. false-true (sym h ∙ e))
 
   done-stores : (o x : ℕ) → sound c ≡ true → rowOf c (Write o x) ≡ 0 → (f : Field) → o ≡ offsetOf f → valueOf f (vmAt (done c (Write o x) .core) (c .running) .status) ≡ x
   unfolding done

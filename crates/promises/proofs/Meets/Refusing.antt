@@ -10,7 +10,7 @@ use Rattle.core.specs.declared.Core.{Core}
 use Rattle.core.specs.declared.Stepped.{Stepped}
 use Rattle.core_laws.proofs.Refused.{step-number}
 use Rattle.core_laws.proofs.View.{step-refused}
-use Rattle.event.specs.declared.Event.the-variants.{Call, Extra, Fault, Restart, Shutdown, Start, Stop, Tick, Write}
+use Rattle.event.specs.declared.Event.the-variants.{Call, Copy, Extra, Fault, Restart, Shutdown, Start, Stop, Tick, Write}
 use Rattle.event.specs.declared.Event.{Event}
 use Rattle.guest.specs.Write.{isField}
 use Rattle.promises.specs.Refusing.{Refuses, firstOf, linesBy, linesOf, saysNo}
@@ -27,6 +27,7 @@ lines-rows c (Extra v) = refl
 lines-rows c (Call s n at) = refl
 lines-rows c (Write o x) = refl
 lines-rows c (Fault k d) = refl
+lines-rows c (Copy p w) = refl
 
 pub lines-first : (c : Core) (e : Event) → firstOf (linesOf c e) ≡ refusalOf c e
 unfolding firstOf linesOf refusalOf

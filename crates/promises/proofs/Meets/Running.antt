@@ -17,13 +17,13 @@ use Rattle.config.specs.Ranges.{Given}
 use Rattle.config.specs.Sizes.{handlerAt, isSpare}
 use Rattle.config.specs.declared.Config.{Config}
 use Rattle.core.specs.Changes.{changedBy}
-use Rattle.core.specs.Events.{done, startCore, stepOf, tickClock}
+use Rattle.core.specs.Events.{done, failureOf, startCore, stepOf, tickClock}
 use Rattle.core.specs.State.{full, readyAt, vmAt}
 use Rattle.core.specs.declared.Core.{Core}
 use Rattle.core.specs.declared.Stepped.{Stepped}
-use Rattle.core_laws.proofs.View.{call-case}
+use Rattle.core_laws.proofs.View.{call-case, copy-case}
 use Rattle.event.specs.Kinds.{isTick}
-use Rattle.event.specs.declared.Event.the-variants.{Call, Extra, Fault, Restart, Shutdown, Start, Stop, Tick, Write}
+use Rattle.event.specs.declared.Event.the-variants.{Call, Copy, Extra, Fault, Restart, Shutdown, Start, Stop, Tick, Write}
 use Rattle.event.specs.declared.Event.{Event}
 use Rattle.guest.specs.Record.{savedAt}
 use Rattle.history.proofs.Lawful.{lawful, runnerBy}
@@ -42,8 +42,8 @@ use Rattle.vms.specs.Tick.{runnerOf}
 
 module _ (c : Core) where
   -- who runs after an event other than a tick
-  abbrev GoesOn : Event → Core → Type 0
-  GoesOn e x = x .running ≡ pick (endedBy (c .running) (c .running) e) 255 (c .running)
+  abbrev GoesOn : Event → Stepped → Type 0
+  GoesOn e x = x .core .running ≡ pick (endedBy (c .running) (c .running) (x .answer) e) 255 (c .running)
 
   stopped : (b : Bool) → pick b 255 (c .running) ≡ pick (not (eqb (pick b 2 1) 1)) 255 (c .running)
   stopped true = refl
@@ -53,17 +53,17 @@ module _ (c : Core) where
   restarted true = refl
   restarted false = refl
 
-  call-running : (s n at : ℕ) → GoesOn (Call s n at) (done c (Call s n at) .core)
+  call-running : (s n at : ℕ) → GoesOn (Call s n at) (done c (Call s n at))
   unfolding done runningWithout
   call-running s n at =
-      call-case (λ (x : Change). GoesOn (Call s n at) (changedBy c x .core)) (c .running) (c .queue) (full c) (handlerAt (c .config) (c .running)) (c .running) s n (savedAt at (vmAt c (c .running)))
+      call-case (λ (x : Change). GoesOn (Call s n at) (changedBy c x)) (c .running) (c .queue) (full c) (handlerAt (c .config) (c .running)) (c .running) s n (savedAt at (vmAt c (c .running)))
       (λ e. rw (e, z)) (λ e. rw (e, z)) (λ e i. rw (e, le-leb n 31 i, z)) (λ e i. rw (e, lt-leb n 31 i, z)) (λ e. rw (e, z)) (λ e i. rw (e, z)) (λ e i. rw (e, z))
       (λ e. rw (ne-eqb s 2 (λ q. omega arith), ne-eqb s 3 (λ q. omega arith), lt-leb s 4 e, z))
     where
       z : eqb (c .running) (c .running) ≡ true
       z = eqb-same (c .running)
 
-  done-running : (e : Event) → isTick e ≡ false → GoesOn e (done c e .core)
+  done-running : (e : Event) → isTick e ≡ false → GoesOn e (done c e)
   unfolding done startCore runningWithout
   done-running Start h = refl
   done-running (Tick at) h = false-true (sym h)
@@ -74,6 +74,9 @@ module _ (c : Core) where
   done-running (Call s n at) h = call-running s n at
   done-running (Write o x) h = refl
   done-running (Fault i x) h = rw (eqb-same (c .running))
+  done-running (Copy p w) h =
+      copy-case (λ (x : Change). GoesOn (Copy p w) (changedBy c x)) (c .running) (c .queue) (c .running) (savedAt (p .next) (vmAt c (c .running))) (failureOf c w p .code) (failureOf c w p .detail)
+      (λ e. refl) (λ e. rw (eqb-same (c .running)))
 
 -- ---- at a tick
 
@@ -107,5 +110,5 @@ pub ours-runs : Runs stepOf
 ours-runs g d es e =
     record {
       tick = λ h. sym (ours-tells g d es e .running) ∙ lawful g d (k g d es) (c g d es) (ours-at g d es) e .ran h ∙ chosen g d es;
-      other = λ w h. when-done (k g d es) (c g d es) e (λ (s : Stepped). GoesOn (c g d es) e (s .core)) (λ s r. done-running (c g d es) e h) w;
+      other = λ w h. when-done (k g d es) (c g d es) e (λ (s : Stepped). GoesOn (c g d es) e s) (λ s r. done-running (c g d es) e h) w;
     }

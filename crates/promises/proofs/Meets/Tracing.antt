@@ -8,13 +8,13 @@ use mathlib.Core.List.{List, []}
 use mathlib.Core.Path.{ap, refl, _∙_, _≡_}
 use native.Mathlib.Omega.{arith}
 use Rattle.basis.proofs.Laws.{eqb-swap}
-use Rattle.basis.specs.Choice.{pick}
+use Rattle.basis.specs.Choice.{both, pick}
 use Rattle.change.specs.declared.Change.{Change}
 use Rattle.config.specs.Ranges.{Given}
 use Rattle.config.specs.Sizes.{handlerAt}
 use Rattle.config.specs.declared.Config.{Config}
 use Rattle.core.specs.Changes.{changedBy}
-use Rattle.core.specs.Events.{done, startCore, stepOf, tickClock, tickOwner, tickTurn}
+use Rattle.core.specs.Events.{done, failureOf, startCore, stepOf, tickClock, tickOwner, tickTurn}
 use Rattle.core.specs.Refusals.{refused, rowOf}
 use Rattle.core.specs.Sound.{sound}
 use Rattle.core.specs.State.{freshCore, full, vmAt}
@@ -22,8 +22,8 @@ use Rattle.core.specs.declared.Core.{Core}
 use Rattle.core.specs.declared.Stepped.{Stepped}
 use Rattle.core_laws.proofs.Facts.{running-below, sound-is}
 use Rattle.core_laws.proofs.Refused.{done-number}
-use Rattle.core_laws.proofs.View.{call-case, row-call, row-fault, row-restart, row-stop, step-case}
-use Rattle.event.specs.declared.Event.the-variants.{Call, Extra, Fault, Restart, Shutdown, Start, Stop, Tick, Write}
+use Rattle.core_laws.proofs.View.{call-case, copy-case, row-call, row-copy, row-fault, row-restart, row-stop, step-case}
+use Rattle.event.specs.declared.Event.the-variants.{Call, Copy, Extra, Fault, Restart, Shutdown, Start, Stop, Tick, Write}
 use Rattle.event.specs.declared.Event.{Event}
 use Rattle.guest.proofs.Facts.{deliver-standing, pend-standing, write-standing}
 use Rattle.guest.specs.Deliver.{backFrom}
@@ -79,7 +79,7 @@ module _ (g : Config) (d : Given g) (k : ℕ) (c : Core) (p : Reached g k c) whe
         P : Change → Type 0
         P x = vmAt (changedBy c x .core) v .standing ≡ pick (eqb (c .running) v) (standingByCall s n (vmAt c v .standing)) (vmAt c v .standing)
 
-    done-standing : v < g .count → (e : Event) → sound c ≡ true → rowOf c e ≡ 0 → vmAt (done c e .core) v .standing ≡ standingBy v (c .running) e (vmAt c v .standing)
+    done-standing : v < g .count → (e : Event) → sound c ≡ true → rowOf c e ≡ 0 → vmAt (done c e .core) v .standing ≡ standingBy v (c .running) (done c e .answer) e (vmAt c v .standing)
     unfolding done tickTurn
     done-standing l Start s r = ap (λ (w : Vm). w .standing) (start-ready g d k c p v l)
     done-standing l (Tick at) s r = turn-standing (c .running) at (c .config .count) (tickOwner c) (frontOf (entries (c .queue))) (tickClock c .left) (c .config .handlers) (c .vms) v
@@ -90,6 +90,17 @@ module _ (g : Config) (d : Given g) (k : ℕ) (c : Core) (p : Reached g k c) whe
     done-standing l (Call i n at) s r = call-standing i n at (running-below c (p .shaped .records) (sound-is c s) (row-call c i n at r .1))
     done-standing l (Write o x) s r = store-keeps (λ y. y .standing) (c .vms) (c .running) _ (write-standing o x (vmAt c (c .running))) v
     done-standing l (Fault i x) s r = put-standing (λ t. 4) (c .running) _ (running-below c (p .shaped .records) (sound-is c s) (row-fault c i x r .1)) refl
+
+    done-standing l (Copy q w) s r =
+        copy-case P (c .running) (c .queue) (c .running) vm (failureOf c w q .code) (failureOf c w q .detail)
+        (λ h. store-keeps (λ x. x .standing) (c .vms) (c .running) vm refl v)
+        (λ h. put-standing (λ t. 4) (c .running) _ (running-below c (p .shaped .records) (sound-is c s) (row-copy c q w r .1)) refl)
+      where
+        vm : Vm
+        vm = savedAt (q .next) (vmAt c (c .running))
+
+        P : Change → Type 0
+        P x = vmAt (changedBy c x .core) v .standing ≡ pick (both (eqb (x .notice .kind) 3) (eqb (c .running) v)) 4 (vmAt c v .standing)
 
     pub step-standing : v < g .count → (e : Event) → vmAt (stepOf c e .core) v .standing ≡ standingAfter v (moment stepOf k c e) (vmAt c v .standing)
     unfolding standingAfter refused
@@ -119,6 +130,7 @@ step-started k c e =
     by-kind (Call i n at) = refl
     by-kind (Write o x) = refl
     by-kind (Fault i x) = refl
+    by-kind (Copy q w) = refl
 
 -- ---- ours
 

@@ -11,9 +11,10 @@ use native.Mathlib.Omega.{arith}
 use Rattle.basis.proofs.Laws.{both-no, eqb-same, false-true}
 use Rattle.basis.specs.Choice.{both, either}
 use Rattle.config.specs.declared.Config.{Config}
+use Rattle.core.specs.State.{vmAt}
 use Rattle.core.specs.declared.Core.{Core}
 use Rattle.core.specs.declared.Stepped.{Stepped}
-use Rattle.event.specs.declared.Event.the-variants.{Call, Extra, Fault, Restart, Shutdown, Start, Stop, Tick, Write}
+use Rattle.event.specs.declared.Event.the-variants.{Call, Copy, Extra, Fault, Restart, Shutdown, Start, Stop, Tick, Write}
 use Rattle.event.specs.declared.Event.{Event}
 use Rattle.history.specs.History.{Moment, momentOf}
 use Rattle.history.specs.Moments.{begins}
@@ -23,6 +24,8 @@ use Rattle.promises.proofs.Only.Fits.{Alike, SameField, Two, age-told, 
 use Rattle.promises.specs.Delivering.{Delivered, Highest, NoneDue, Offer, callDelivers, injectOffer, returnOffer, syncOffer, tickOffer}
 use Rattle.promises.specs.Framing.{Enabled, Field, Left, OnTick, Pending, Previous, Reason, Restore, Resume, Running, Since, isField, ofCall, ofDelivery, ofTick, offsetOf}
 use Rattle.table.specs.declared.Clock.{Clock}
+use Rattle.window.specs.declared.Pieces.{Pieces}
+use Rattle.window.specs.declared.Window.{Window}
 
 -- a Call delivers by service 0, 1, or 2 with a number up to 31, or not at all
 pub by-service : {X : Type 0} {s n : ℕ} → (s ≡ 0 → X) → (s ≡ 1 → X) → (s ≡ 2 → n ≤ 31 → X) → (callDelivers s n ≡ false → X) → X
@@ -208,6 +211,18 @@ module _ {g : Config} {ms : List Moment} {k : ℕ} {c : Core} {o d : ℕ} {s t :
         | no a ↦ (let z = ne-eqb (c .running) v a in record { fields = λ f. unnamed w v l f (rw z) (rw z); address = unmoved w v l refl refl })
       ]
 
+-- ---- a Copy
+
+copy-alike : {g : Config} {ms : List Moment} {k : ℕ} {c : Core} {p : Pieces} {x : Window} {s t : Stepped} → Two g ms k c (Copy p x) s t → (v : ℕ) → v < g .count → Alike v (s .core) (t .core)
+copy-alike {c = c} {s = s} {t = t} w v l =
+    record {
+      fields = λ f. unnamed w v l f refl refl;
+      address = elim (ℕ-discrete (c .running) v) [
+        | yes a ↦ subst (λ (i : ℕ). vmAt (s .core) i .address ≡ vmAt (t .core) i .address) a (w .one .delivers .accepted (w .went-one) .saved ∙ sym (w .two .delivers .accepted (w .went-two) .saved))
+        | no a ↦ (let z = ne-eqb (c .running) v a in unmoved w v l z z)
+      ];
+    }
+
 -- ---- any event, of a VM that it does not begin
 
 pub alike : {g : Config} {ms : List Moment} {k : ℕ} {c : Core} (e : Event) {s t : Stepped} → Two g ms k c e s t → (v : ℕ) → v < g .count → begins v (momentOf k c e s) ≡ false → Alike v (s .core) (t .core)
@@ -221,3 +236,4 @@ alike (Extra x) w v l h = record { fields = λ f. unnamed w v l f refl refl; add
 alike (Call i n at) w v l h = call-alike w v l
 alike (Write o d) w v l h = write-alike w v l
 alike (Fault i d) w v l h = record { fields = λ f. unnamed w v l f refl refl; address = unmoved w v l refl refl }
+alike (Copy p x) w v l h = copy-alike w v l

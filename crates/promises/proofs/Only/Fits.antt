@@ -1,10 +1,13 @@
 -- What the rules say of one event, with everything before it as variables, and what two outcomes that fit it have in common.
 use Prim.Native.Nat.{suc, zero, ℕ, _%_, _+_, _<_, _^_}
 use borrow.Author.Tests.{eqb-true}
-use mathlib.Core.Bool.{Bool, false, true}
+use lib.Dec.{eqb}
+use mathlib.Core.Bool.{Bool, false, not, true}
 use mathlib.Core.List.{List, [], _++_, _∷_}
 use mathlib.Core.Path.{ap, refl, subst, sym, _∙_, _≡_}
 use Rattle.basis.specs.Choice.{both, pick}
+use Rattle.change.specs.declared.Answer.{Answer}
+use Rattle.change.specs.declared.Notice.{Notice}
 use Rattle.config.specs.Ranges.{Given}
 use Rattle.config.specs.declared.Config.{Config}
 use Rattle.core.specs.Sound.{sound}
@@ -13,13 +16,13 @@ use Rattle.core.specs.declared.Core.{Core}
 use Rattle.core.specs.declared.Stepped.{Stepped}
 use Rattle.core_laws.proofs.Facts.{len-most, queue-padded, sound-is, ticked-not}
 use Rattle.event.specs.Kinds.{isTick}
-use Rattle.event.specs.declared.Event.the-variants.{Call, Extra, Fault, Restart, Shutdown, Start, Stop, Tick, Write}
+use Rattle.event.specs.declared.Event.the-variants.{Call, Copy, Extra, Fault, Restart, Shutdown, Start, Stop, Tick, Write}
 use Rattle.event.specs.declared.Event.{Event}
 use Rattle.history.proofs.More.{count-more, moments-more, state-more, told-more}
 use Rattle.history.specs.History.{AtEachState, Behaviour, Moment, history, momentOf, next, stateOf, ticking, ticksAfter, ticksOf, told, went}
-use Rattle.history.specs.Moments.{begins, ranIn}
-use Rattle.history.specs.Queueing.{Effect, affected, effect, effectBy, ofService, removedFrom}
-use Rattle.history.specs.Telling.{queueAfter, queueIn, standingAfter, startedAfter}
+use Rattle.history.specs.Moments.{begins, ranIn, tellsError}
+use Rattle.history.specs.Queueing.{Effect, Keep, Remove, affected, effect, effectBy, ofService, removedFrom}
+use Rattle.history.specs.Telling.{queueAfter, queueIn, standingAfter, standingBy, startedAfter}
 use Rattle.promises.proofs.Only.Parts.{clock-same, left-one, slot-one}
 use Rattle.promises.specs.Answering.{RemovesOf, TellsOf}
 use Rattle.promises.specs.Delivering.{DeliversOf}
@@ -79,6 +82,19 @@ rules-fit b r g d es e =
 
 -- ---- two outcomes of an event that is accepted
 
+-- of the answer only the notice tells how a VM stands
+standing-told : (v r : ℕ) (a b : Answer) (e : Event) (i : ℕ) → tellsError a ≡ tellsError b → standingBy v r a e i ≡ standingBy v r b e i
+standing-told v r a b Start i h = refl
+standing-told v r a b (Tick at) i h = refl
+standing-told v r a b (Stop x) i h = refl
+standing-told v r a b (Shutdown x) i h = refl
+standing-told v r a b (Restart x) i h = refl
+standing-told v r a b (Extra x) i h = refl
+standing-told v r a b (Call x n at) i h = refl
+standing-told v r a b (Write o x) i h = refl
+standing-told v r a b (Fault x d) i h = refl
+standing-told v r a b (Copy p w) i h = ap (λ (x : Bool). pick (both x (eqb r v)) 4 i) h
+
 pub record Two (g : Config) (ms : List Moment) (k : ℕ) (c : Core) (e : Event) (s t : Stepped) : Type 0 where
   pub one : Fits g ms k c e s
   pub two : Fits g ms k c e t
@@ -102,12 +118,22 @@ module _ {g : Config} {ms : List Moment} {k : ℕ} {c : Core} {e : Event} {s t :
   unfolding begins
   same-begins v = rw (w .went-one, w .went-two)
 
+  same-error : tellsError (s .answer) ≡ tellsError (t .answer)
+  same-error = ap (λ (x : Notice). eqb (x .kind) 3) (w .one .tells .notice (w .went-one) ∙ sym (w .two .tells .notice (w .went-two)))
+
+  -- the answers tell the same end
+  stands-same : (v r i : ℕ) → standingBy v r (s .answer) e i ≡ standingBy v r (t .answer) e i
+  stands-same v r i = standing-told v r (s .answer) (t .answer) e i same-error
+
   pub same-running : s .core .running ≡ t .core .running
   same-running = go (isTick e) refl
     where
       go : (b : Bool) → isTick e ≡ b → s .core .running ≡ t .core .running
       go true z = w .one .runs .tick (rw (w .went-one, z)) ∙ sym (w .two .runs .tick (rw (w .went-two, z)))
-      go false z = w .one .runs .other (w .went-one) z ∙ sym (w .two .runs .other (w .went-two) z)
+      go false z =
+          w .one .runs .other (w .went-one) z
+          ∙ ap (λ (i : ℕ). pick (not (eqb i 1)) 255 (c .running)) (stands-same (c .running) (c .running) 1)
+          ∙ sym (w .two .runs .other (w .went-two) z)
 
   pub told-running : s .answer .running ≡ t .answer .running
   told-running = w .one .tells .running ∙ same-running ∙ sym (w .two .tells .running)
@@ -135,6 +161,7 @@ module _ {g : Config} {ms : List Moment} {k : ℕ} {c : Core} {e : Event} {s t :
       go (Call i j at) = ap (ofService (c .running) i j) same-result
       go (Write o v) = refl
       go (Fault i d) = refl
+      go (Copy p x) = ap (λ (b : Bool). pick b (Remove (c .running)) Keep) same-error
 
   same-entries : entries (s .core .queue) ≡ entries (t .core .queue)
   unfolding queueAfter
@@ -186,7 +213,7 @@ module _ {g : Config} {ms : List Moment} {k : ℕ} {c : Core} {e : Event} {s t :
 
   pub same-standing : (v : ℕ) → v < g .count → vmAt (s .core) v .standing ≡ vmAt (t .core) v .standing
   unfolding standingAfter
-  same-standing v l = w .one .traced .standing v l ∙ told-same (standingAfter v) 0 (rw (w .went-one, w .went-two)) ∙ sym (w .two .traced .standing v l)
+  same-standing v l = w .one .traced .standing v l ∙ told-same (standingAfter v) 0 (rw (w .went-one, w .went-two) (stands-same v (c .running) _)) ∙ sym (w .two .traced .standing v l)
 
   same-ran-in : (v : ℕ) → ranIn v m ≡ ranIn v n
   same-ran-in v = rw (same-ticking, told-running)
