@@ -9,7 +9,7 @@
 #include "gerstendocht.h"
 
 /* A Copy: its kind in a log (E13), the limits of what it asks for (S10), and where the window of a log lies (L6). */
-enum { COPY = 0x1a, MOST_EXTENTS = 8, LONGEST_EXTENT = 256, WINDOW_BASE = 0x40000000, WINDOW_SIZE = 16384 };
+enum { COPY = 0x1a, COPY_BYTES = 102, MOST_EXTENTS = 8, LONGEST_EXTENT = 256, WINDOW_BASE = 0x40000000, WINDOW_SIZE = 16384 };
 
 typedef struct extent {
     uint32_t source, destination, length;
@@ -40,8 +40,9 @@ uint8_t write_image(const core_config *c, uint8_t *b, size_t room, size_t *size)
 /* log.c */
 enum { LONGEST_LOG = 60000 };                                /* S9 */
 enum { IMAGE_ROOM = 4096, LOG_ROOM = 65536 };                /* as much of a file as is read: more than decides */
-size_t decode(const uint8_t *b, size_t n, core_input *e);    /* the width of the record in front; 0: cut or unknown (L4) */
-core_answer run_record(core_state *c, core_input e, const uint8_t *record, uint8_t *memory);   /* what was decoded; a Copy too (L6) */
+size_t decode(const uint8_t *b, size_t n, core_input *e);    /* the width of the record in front; 0: a Copy, cut or unknown (L4) */
+size_t copy_width(const uint8_t *b, size_t n);               /* the same where it is a Copy; 0: it is none, or cut */
+core_answer run_copy(core_state *c, const uint8_t *record, uint8_t *memory);    /* it happens, in the window of a log (L6) */
 int read_file(const char *name, uint8_t *b, size_t room);    /* the bytes read; -1: does not open */
 size_t read_all(int file, uint8_t *b, size_t room);
 void write_all(const uint8_t *b, size_t n);

@@ -7,3 +7,4 @@ pub mod Events
 pub mod Always
 pub mod Unique
 pub mod Copying
+pub mod Wheels

@@ -1,6 +1,6 @@
 -- What a copy means, byte by byte (D36), and that a memory of zeros stays one.
 use Prim.Native.Nat.{suc, zero, ℕ, _+_, _-_, _<_, _≤_}
-use borrow.Author.Tests.{le-leb, le-ltb, lt-leb, lt-ltb}
+use borrow.Author.Tests.{le-leb, le-ltb, leb-true, lt-leb, lt-ltb, ltb-true}
 use lib.Dec.{leb, ltb}
 use lib.ListN.{List·getD-append, drop, getD, length, length-append, length-drop, length-replicate, length-take, replicate, take}
 use lib.Seq.{ext-getD, getD-append-add, getD-drop, getD-take, length-paste}
@@ -10,11 +10,13 @@ use mathlib.Core.Logic.{_≢_}
 use mathlib.Core.Path.{ap, refl, sym, _∙_, _≡_}
 use native.Mathlib.Decide.{decLe, decLt, ℕ-discrete}
 use native.Mathlib.Omega.{arith}
+use Rattle.basis.proofs.Laws.{both-left, both-right, false-true}
 use Rattle.basis.specs.Choice.{both, pick}
 use Rattle.window.proofs.Inside.{fits-bounds}
 use Rattle.window.proofs.Laws.{copied-append, moved-none}
 use Rattle.window.specs.Bytes.{copied}
 use Rattle.window.specs.Pieces.{copiedAll, fits, moved, noExtent, windowOf}
+use Rattle.window.specs.Ranges.{Apart, allFit, inDestination, inSource, sourceOf}
 use Rattle.window.specs.declared.Extent.{Extent}
 
 -- an element of two lists one behind the other
@@ -58,18 +60,6 @@ module _ (from to n : ℕ) (m : List ℕ) (h : from + n ≤ length m) (g : to + 
   pub copied-long : length (copied from to n m) ≡ length m
   unfolding copied
   copied-long = length-paste m to (drop from m) n g (let c = length-drop from m in omega arith)
-
--- whether an address lies in the destination of an extent; none lies in that of an extent of length 0
-abbrev pub inDestination : Extent → ℕ → Bool
-inDestination x a = both (leb (x .destination) a) (ltb a (x .destination + x .length))
-
--- where the byte of an address in the destination comes from, as a place in the memory
-abbrev pub sourceOf : ℕ → Extent → ℕ → ℕ
-sourceOf base x i = x .source - base + (base + i - x .destination)
-
--- D34: where each of some extents fits
-abbrev pub allFit : ℕ → List Extent → List ℕ → Type 0
-allFit base xs m = (k : ℕ) → k < length xs → fits (windowOf base m) (getD xs k noExtent) ≡ true
 
 module _ (base : ℕ) (x : Extent) (m : List ℕ) (f : fits (windowOf base m) x ≡ true) where
   -- where it has bytes, its two ranges are places of the memory
@@ -143,6 +133,35 @@ copied-all-last base xs x m i f g h =
     ap (λ (l : List ℕ). getD l i 0) (copied-append base xs x m)
     ∙ moved-at base x (copiedAll base xs m) (rw (copied-all-long base xs m f) g) i
     ∙ rw h
+
+-- the byte from which one of a destination comes lies in the source
+source-in : (base : ℕ) (y : Extent) (m : List ℕ) (i : ℕ) → fits (windowOf base m) y ≡ true → inDestination y (base + i) ≡ true → inSource y (base + sourceOf base y i) ≡ true
+source-in base y m i f h =
+    let low = leb-true (y .destination) (base + i) (both-left (leb (y .destination) (base + i)) _ h) in
+    let high = ltb-true (base + i) (y .destination + y .length) (both-right (leb (y .destination) (base + i)) _ h) in
+    let b = fits-bounds (windowOf base m) y f (omega arith) in
+    rw (le-leb (y .source) (base + sourceOf base y i) (omega (arith, b .from)), lt-ltb (base + sourceOf base y i) (y .source + y .length) (omega (arith, b .from)))
+
+-- D36: where no extent touches what a later one reads or writes, each destination holds the bytes that its source held before all of them
+pub copied-each : (base : ℕ) (xs : List Extent) (m : List ℕ) → allFit base xs m → Apart xs → (k i : ℕ) → k < length xs
+    → inDestination (getD xs k noExtent) (base + i) ≡ true → getD (copiedAll base xs m) i 0 ≡ getD m (sourceOf base (getD xs k noExtent) i) 0
+unfolding copiedAll
+copied-each base [] m f a k i h d = absurd (omega arith)
+copied-each base (x ∷ xs) m f a zero i h d =
+    copied-all-else base xs (moved base x m) i (rest-fits base x xs m f) (λ j l. a zero (suc j) (omega arith) (omega arith) (base + i) d .0)
+    ∙ moved-at base x m (f zero (omega arith)) i
+    ∙ rw d
+copied-each base (x ∷ xs) m f a (suc k) i h d =
+    copied-each base xs (moved base x m) (rest-fits base x xs m f) (λ j l u v. a (suc j) (suc l) (omega arith) (omega arith)) k i (omega arith) d
+    ∙ moved-at base x m (f zero (omega arith)) (sourceOf base (getD xs k noExtent) i)
+    ∙ rw (clear (inDestination x (base + sourceOf base (getD xs k noExtent) i)) refl)
+  where
+    from : inSource (getD xs k noExtent) (base + sourceOf base (getD xs k noExtent) i) ≡ true
+    from = source-in base (getD xs k noExtent) m i (f (suc k) h) d
+
+    clear : (b : Bool) → inDestination x (base + sourceOf base (getD xs k noExtent) i) ≡ b → inDestination x (base + sourceOf base (getD xs k noExtent) i) ≡ false
+    clear true e = false-true (sym (a zero (suc k) (omega arith) h (base + sourceOf base (getD xs k noExtent) i) e .1) ∙ from)
+    clear false e = e
 
 -- every byte of zeros, and behind them, is 0
 zeros-at : (k i : ℕ) → _≡_ {A = ℕ} (getD (replicate k 0) i 0) 0
