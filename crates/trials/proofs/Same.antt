@@ -16,7 +16,7 @@ use Rattle.core.specs.Refusals.{refused, rowOf}
 use Rattle.core.specs.State.{full, vmAt}
 use Rattle.core.specs.declared.Core.{Core}
 use Rattle.core.specs.declared.Stepped.{Stepped}
-use Rattle.event.specs.declared.Event.the-variants.{Call, Extra, Fault, Restart, Shutdown, Start, Stop, Tick, Write}
+use Rattle.event.specs.declared.Event.the-variants.{Call, Copy, Extra, Fault, Restart, Shutdown, Start, Stop, Tick, Write}
 use Rattle.event.specs.declared.Event.{Event}
 use Rattle.guest.specs.Deliver.{deliver, enter}
 use Rattle.guest.specs.Record.{savedAt}
@@ -58,3 +58,4 @@ same-delivery c (Call s n at) = go (eqb (rowOf c (Call s n at)) 0) (callDelivers
     go false b e f = refl
 same-delivery c (Write o x) = refl
 same-delivery c (Fault k x) = refl
+same-delivery c (Copy p w) = refl

@@ -12,15 +12,18 @@ use Rattle.basis.proofs.Bounds.{within-is}
 use Rattle.basis.specs.Bounds.{zeros}
 use Rattle.basis.specs.Choice.{either}
 use Rattle.basis.specs.Count.{every, howMany, joined, some, upTo}
-use Rattle.change.specs.Changes.{calledFrom, runningWithout}
+use Rattle.change.specs.Changes.{calledFrom, copyingFrom, runningWithout}
 use Rattle.config.proofs.Legality.{legal-is}
 use Rattle.config.specs.Sizes.{durationAt, durationsFit, hasSlot, legal, ownersFit, slotsRest, vmsRest, vmsServed}
+use Rattle.copies.specs.Failing.{copyFailure, extentFailure, firstFailure}
 use Rattle.core.proofs.Inner.{step-unsound}
 use Rattle.core.specs.Events.{done, innerOf, startCore, stepOf, tickClock, tickQueue, tickTurn}
+use Rattle.core.specs.Memory.{memoryAfter}
 use Rattle.core.specs.Refusals.{refusalOf, refused, rowOf}
 use Rattle.core.specs.Sound.{configSound, leftSound, noneReady, queuedReady, slotSound, sound, standingsKnown}
 use Rattle.core.specs.declared.Core.{Core}
 use Rattle.event.specs.declared.Event.{Event}
+use Rattle.grants.specs.Access.{allowed, allows, granted, grantedAll}
 use Rattle.guest.specs.Bits.{clearBit, highest, setBit}
 use Rattle.guest.specs.Deliver.{deliver, due, enter, shown}
 use Rattle.guest.specs.Record.{isBlank, isFresh, pend}
@@ -33,9 +36,12 @@ use Rattle.regions.specs.Beside.{agreesAll}
 use Rattle.regions.specs.Rules.{alikeAll, allAgree, bytesRest, fewEach, held, holdersFit, kept, lawful, permissionsFit, rangesFit, wordsRest}
 use Rattle.table.specs.Position.{hasTicked, nextClock}
 use Rattle.trials.specs.Broken.{Broken, brokenStates, clausesOf, good}
+use Rattle.trials.specs.Copies.{copyShown, tabled}
 use Rattle.trials.specs.Vectors.{Vector, callShown, countsShown, linesIn, removedShown, vectors}
 use Rattle.vms.specs.Records.{each, restFresh}
 use Rattle.vms.specs.Tick.{entering, passed, runnerOf, saving, turn, turnBy}
+use Rattle.window.specs.Bytes.{copied as copiedBytes}
+use Rattle.window.specs.Pieces.{copiedAll, inside}
 
 abbrev AllFalse : List Bool → Type 0
 AllFalse [] = Unit {0}
@@ -51,11 +57,11 @@ record Computed : Type 0 where
   unsound : AllFalse (soundIn brokenStates)
 
 computed : Computed
-unfolding vectors linesIn callShown removedShown countsShown brokenStates clausesOf good refusedImage readImage readEnd readSlots readVms coreFault ownerFault slotFault vmFault stepOf refusalOf rowOf sound queuedReady noneReady standingsKnown done startCore tickClock tickTurn tickQueue calledFrom runningWithout refused innerOf legal durationsFit ownersFit vmsServed hasSlot vmsRest slotsRest every some upTo joined isField stored write due deliver enter shown highest setBit clearBit pend isFresh isBlank frontOf rest others popped pushed paddedOf countedOf nextClock each restFresh saving runnerOf entering turnBy passed turn stateAfter moments entriesOf lawful kept holdersFit permissionsFit rangesFit fewEach held howMany alikeAll allAgree bytesRest wordsRest zeros readRegions regionFault placeFault agreesAll
+unfolding vectors linesIn callShown removedShown countsShown brokenStates clausesOf good refusedImage readImage readEnd readSlots readVms coreFault ownerFault slotFault vmFault stepOf refusalOf rowOf sound queuedReady noneReady standingsKnown done startCore tickClock tickTurn tickQueue calledFrom runningWithout refused innerOf legal durationsFit ownersFit vmsServed hasSlot vmsRest slotsRest every some upTo joined isField stored write due deliver enter shown highest setBit clearBit pend isFresh isBlank frontOf rest others popped pushed paddedOf countedOf nextClock each restFresh saving runnerOf entering turnBy passed turn stateAfter moments entriesOf lawful kept holdersFit permissionsFit rangesFit fewEach held howMany alikeAll allAgree bytesRest wordsRest zeros readRegions regionFault placeFault agreesAll copyShown tabled memoryAfter copyingFrom copyFailure firstFailure extentFailure inside copiedAll copiedBytes allowed grantedAll granted allows
 computed =
     record { vectors = refl; good = refl; broken = refl; unsound = (refl, (refl, (refl, (refl, (refl, (refl, (refl, (refl, (refl, (refl, (refl, (refl, (refl, (refl, (refl, (refl, (refl, (refl, tt)))))))))))))))))) }
 
--- X1, X2, P1 to P13, C7
+-- X1, X2, P1 to P22, C7
 pub vectors-hold : map (λ (v : Vector). v .found) vectors ≡ map (λ (v : Vector). v .says) vectors
 vectors-hold = computed .vectors
 

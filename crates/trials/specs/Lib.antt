@@ -1,4 +1,5 @@
 pub mod Examples
+pub mod Copies
 pub mod Worthless
 pub mod Spoilt
 pub mod Refuted

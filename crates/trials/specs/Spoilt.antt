@@ -12,7 +12,7 @@ use Rattle.core.specs.State.{addressOf, ownerNow, readyAt, vmAt, withClock, wit
 use Rattle.core.specs.declared.Core.{Core}
 use Rattle.core.specs.declared.Stepped.{Stepped}
 use Rattle.event.specs.Kinds.{kindOf, subject}
-use Rattle.event.specs.declared.Event.the-variants.{Call, Extra, Fault, Restart, Shutdown, Start, Stop, Tick, Write}
+use Rattle.event.specs.declared.Event.the-variants.{Call, Copy, Extra, Fault, Restart, Shutdown, Start, Stop, Tick, Write}
 use Rattle.event.specs.declared.Event.{Event}
 use Rattle.guest.specs.Record.{blank, endedAs, fresh, isReady, savedAt, withStatus}
 use Rattle.guest.specs.Write.{write}
@@ -99,6 +99,7 @@ wroteBy (Extra w) v = v
 wroteBy (Call s n at) v = v
 wroteBy (Write o x) v = write o x v
 wroteBy (Fault k d) v = v
+wroteBy (Copy p w) v = v
 
 -- D21: it lands in every VM's block
 abbrev pub writesAll : Behaviour

@@ -1,7 +1,9 @@
--- The vectors of the rules as one table: X1 with the thirteen lines of X2, and P1 to P13.
-use Prim.Native.Nat.{ℕ, _-_}
+-- The vectors of the rules as one table: X1 with the thirteen lines of X2, and P1 to P22.
+use Prim.Native.Nat.{ℕ, _%_, _+_, _-_}
+use lib.Dec.{ltb}
 use lib.ListN.{drop, getD, replicate, take}
-use mathlib.Core.List.{List, map, [], _∷_}
+use mathlib.Core.List.{List, map, [], _++_, _∷_}
+use Rattle.basis.specs.Choice.{pick}
 use Rattle.change.specs.declared.Answer.{Answer}
 use Rattle.config.specs.declared.Config.{Config}
 use Rattle.core.specs.Events.{stepOf}
@@ -15,7 +17,10 @@ use Rattle.guest.specs.declared.Status.{Status}
 use Rattle.history.specs.History.{Moment, history, stateOf}
 use Rattle.image_reader.specs.Reader.{readImage}
 use Rattle.queue.specs.Entries.{entries}
+use Rattle.trials.specs.Copies.{bytesAtFirst, bytesWith, copied, copyShown, failed, piece}
 use Rattle.trials.specs.Examples.{example, zeros}
+use Rattle.window.specs.Pieces.{extentOf}
+use Rattle.window.specs.declared.Extent.{Extent}
 
 -- the rule, what the definitions give, and what the rule says
 pub data Rule : Type 0 where
@@ -106,7 +111,18 @@ removedShown n e = getD (map removedBy (history stepOf (example 4) (Start ∷ Ti
 unfoldable pub countsShown : List Event → List ℕ
 countsShown es = stateOf stepOf (example 4) (Start ∷ Tick 0 ∷ Extra 0 ∷ Extra 1 ∷ Call 4 0 0x1010 ∷ es) .queue .counts
 
--- X1, X2, P1 to P13, C7
+-- P17: the kth extent moves one byte
+abbrev pub bytewise : ℕ → Extent
+bytewise k = piece k (0x100 + k) 1
+
+abbrev pub sevenBytes : List Extent
+sevenBytes = bytewise 0 ∷ bytewise 1 ∷ bytewise 2 ∷ bytewise 3 ∷ bytewise 4 ∷ bytewise 5 ∷ bytewise 6 ∷ []
+
+-- addresses and a length that no Copy may have
+abbrev pub wild : Extent
+wild = extentOf 0xffffffff 0 0xffffffff
+
+-- X1, X2, P1 to P22, C7
 unfoldable pub vectors : List Vector
 vectors =
     record { rule = InX1; found = judged exampleImage ∷ partsOf (readImage exampleImage .config); says = (0 ∷ 0 ∷ []) ∷ partsOf (example 1) }
@@ -157,4 +173,23 @@ vectors =
     }
     ∷ vector (InP 13) (countsShown (Stop 1 ∷ [])) (2 ∷ zeros 7)
     ∷ vector (InP 13) (countsShown (Tick 0 ∷ Tick 0 ∷ Tick 0 ∷ [])) (1 ∷ 1 ∷ zeros 6)
+    ∷ record { rule = InP 14; found = copyShown 1 (piece 0 0x10 0x40 ∷ []); says = copied (bytesWith 0x10 0x50 (λ i. i - 0x10)) }
+    ∷ record { rule = InP 14; found = copyShown 1 (piece 0x10 0 0x40 ∷ []); says = copied (bytesWith 0 0x40 (λ i. i + 0x10)) }
+    ∷ record {
+      rule = InP 15;
+      found = copyShown 2 (piece 0 0x40 4 ∷ piece 0x40 0x100 4 ∷ []);
+      says = copied (bytesWith 0x40 0x104 (λ i. pick (ltb i 0x44) (i - 0x40) (pick (ltb i 0x100) (i % 251) (i - 0x100))));
+    }
+    ∷ record { rule = InP 16; found = copyShown 1 (piece 0 0x80 256 ∷ []); says = copied (bytesWith 0x80 0x180 (λ i. (i - 0x80) % 251)) }
+    ∷ record { rule = InP 16; found = copyShown 1 (piece 0 0x80 257 ∷ []); says = failed 7 257 }
+    ∷ record { rule = InP 17; found = copyShown 8 (sevenBytes ++ (bytewise 7 ∷ [])); says = copied (bytesWith 0x100 0x108 (λ i. i - 0x100)) }
+    ∷ record { rule = InP 17; found = copyShown 9 (sevenBytes ++ (bytewise 7 ∷ [])); says = failed 6 9 }
+    ∷ record { rule = InP 17; found = copyShown 0 (wild ∷ wild ∷ []); says = copied bytesAtFirst }
+    ∷ record { rule = InP 18; found = copyShown 1 (extentOf 0xffffffff 0 0 ∷ wild ∷ []); says = copied bytesAtFirst }
+    ∷ record { rule = InP 19; found = copyShown 1 (piece 0x1fc 0 8 ∷ []); says = failed 3 0x400001fc }
+    ∷ record { rule = InP 19; found = copyShown 1 (piece 0 0x1fc 8 ∷ []); says = failed 3 0x400001fc }
+    ∷ record { rule = InP 20; found = copyShown 1 (piece 0x70 0x100 0x20 ∷ []); says = copied (bytesWith 0x100 0x120 (λ i. i - 0x90)) }
+    ∷ record { rule = InP 21; found = copyShown 1 (piece 0 0x180 4 ∷ []); says = failed 3 0x40000180 }
+    ∷ record { rule = InP 21; found = copyShown 1 (piece 0x180 0 4 ∷ []); says = copied (bytesWith 0 4 (λ i. (i + 0x180) % 251)) }
+    ∷ record { rule = InP 22; found = copyShown 8 (sevenBytes ++ (piece 0 0x40 257 ∷ [])); says = failed 7 257 }
     ∷ []

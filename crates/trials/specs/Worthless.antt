@@ -17,7 +17,7 @@ use Rattle.core.specs.State.{idle, ownerNow, vmAt, withClock, withQueue, withRu
 use Rattle.core.specs.declared.Core.{Core}
 use Rattle.core.specs.declared.Stepped.{Stepped}
 use Rattle.event.specs.Kinds.{anyRestart, byteOf, isExtra, isShutdown, isStop, isTick}
-use Rattle.event.specs.declared.Event.the-variants.{Call, Extra, Fault, Restart, Shutdown, Start, Stop, Tick, Write}
+use Rattle.event.specs.declared.Event.the-variants.{Call, Copy, Extra, Fault, Restart, Shutdown, Start, Stop, Tick, Write}
 use Rattle.event.specs.declared.Event.{Event}
 use Rattle.guest.specs.Deliver.{backFrom, deliver, deliverBy, quiet, shown}
 use Rattle.guest.specs.Record.{fresh, pend, savedAt, withPending, withStatus}
@@ -154,6 +154,7 @@ deliveringBy d i c (Call s n at) =
     (innerOf c (Call s n at))
 deliveringBy d i c (Write o x) = innerOf c (Write o x)
 deliveringBy d i c (Fault k x) = innerOf c (Fault k x)
+deliveringBy d i c (Copy p w) = innerOf c (Copy p w)
 
 -- nothing is pending any more
 abbrev pub emptied : Vm → Found → Vm
