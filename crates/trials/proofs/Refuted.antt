@@ -1,5 +1,6 @@
 -- Each worthless core, and each easy mistake, fails a demand that is named; and the promises are not empty. Both by computation.
 use Prim.Native.Nat.{ℕ}
+use lib.ListN.{getD}
 use mathlib.Core.Bool.{true}
 use mathlib.Core.List.{List, [], _∷_}
 use mathlib.Core.Path.{ap, refl, _≡_}
@@ -7,15 +8,17 @@ use native.Mathlib.Omega.{arith}
 use Rattle.basis.proofs.Laws.{false-true}
 use Rattle.basis.specs.Bounds.{zeros}
 use Rattle.basis.specs.Count.{every, howMany, joined, some, upTo}
-use Rattle.change.specs.Changes.{calledFrom, runningWithout}
+use Rattle.change.specs.Changes.{calledFrom, copyingFrom, runningWithout}
 use Rattle.config.specs.Ranges.{Given}
 use Rattle.config.specs.Sizes.{durationsFit, hasSlot, legal, ownersFit, slotsRest, vmsRest, vmsServed}
+use Rattle.copies.specs.Failing.{copyFailure, extentFailure, firstFailure}
 use Rattle.core.specs.Events.{done, innerOf, startCore, stepOf, tickClock, tickQueue, tickTurn}
 use Rattle.core.specs.Refusals.{refusalOf, refused, rowOf}
 use Rattle.core.specs.Sound.{noneReady, queuedReady, sound, standingsKnown}
 use Rattle.core.specs.State.{freshCore}
 use Rattle.event.specs.declared.Event.the-variants.{Call, Extra, Fault, Restart, Shutdown, Start, Stop, Tick, Write}
 use Rattle.event.specs.declared.Event.{Event}
+use Rattle.grants.specs.Access.{allowed, allows, granted, grantedAll}
 use Rattle.guest.specs.Bits.{clearBit, highest, setBit}
 use Rattle.guest.specs.Deliver.{deliver, due, enter, shown}
 use Rattle.guest.specs.Record.{isBlank, isFresh, pend}
@@ -35,15 +38,25 @@ use Rattle.queue.specs.Entries.{countedOf, entriesOf, frontOf, others, paddedOf
 use Rattle.regions.specs.Rules.{alikeAll, allAgree, bytesRest, fewEach, held, holdersFit, kept, lawful, permissionsFit, rangesFit, wordsRest}
 use Rattle.table.specs.Place.{tableTo}
 use Rattle.table.specs.Position.{nextClock}
-use Rattle.trials.specs.Examples.{example}
+use Rattle.trials.specs.Copies.{copyOf, piece}
+use Rattle.trials.specs.Examples.{copyExample, example}
 use Rattle.trials.specs.Occurs.{NotEmpty}
 use Rattle.trials.specs.Refuted.{Refuted}
 use Rattle.trials.specs.Worthless.{deliverEmpty, deliverLow, lowest}
 use Rattle.vms.specs.Records.{each, restFresh}
 use Rattle.vms.specs.Tick.{entering, passed, runnerOf, saving, turn, turnBy}
+use Rattle.window.specs.Bytes.{copied}
+use Rattle.window.specs.Pieces.{copiedAll, inside}
 
 given : (n : ℕ) → legal (example n) ≡ true → Given (example n)
 given n h = record { legal = h; sized = record { entries = refl; handlers = refl; owners = refl; durations = refl; regions = record { holders = refl; permissions = refl; starts = refl; lasts = refl } } }
+
+copy-given : legal copyExample ≡ true → Given copyExample
+copy-given h = record { legal = h; sized = record { entries = refl; handlers = refl; owners = refl; durations = refl; regions = record { holders = refl; permissions = refl; starts = refl; lasts = refl } } }
+
+-- a Copy of one byte from place 0 to place 1 of the window
+abbrev oneByte : Event
+oneByte = copyOf 1 (piece 0 1 1 ∷ [])
 
 -- an offer with these numbers pending and enabled
 abbrev offered : ℕ → ℕ → Status
@@ -63,7 +76,7 @@ record Computed : Type 0 where
   occurs : NotEmpty
 
 computed : Computed
-unfolding stepOf refusalOf rowOf sound queuedReady noneReady standingsKnown done startCore tickClock tickTurn tickQueue calledFrom runningWithout refused innerOf legal durationsFit ownersFit vmsServed hasSlot vmsRest slotsRest every some upTo joined isField stored write due deliver enter shown highest setBit clearBit pend isFresh isBlank frontOf rest others popped pushed paddedOf countedOf nextClock each restFresh saving runnerOf entering turnBy passed turn moments stateAfter countAfter times told standingAfter startedAfter queueAfter ends tableTo naming asks begins entriesOf effect entriesNot servedIn removedIn firstOf linesOf deliverEmpty deliverLow lowest lawful kept holdersFit permissionsFit rangesFit fewEach held howMany alikeAll allAgree bytesRest wordsRest zeros
+unfolding stepOf refusalOf rowOf sound queuedReady noneReady standingsKnown done startCore tickClock tickTurn tickQueue calledFrom runningWithout refused innerOf legal durationsFit ownersFit vmsServed hasSlot vmsRest slotsRest every some upTo joined isField stored write due deliver enter shown highest setBit clearBit pend isFresh isBlank frontOf rest others popped pushed paddedOf countedOf nextClock each restFresh saving runnerOf entering turnBy passed turn moments stateAfter countAfter times told standingAfter startedAfter queueAfter ends tableTo naming asks begins entriesOf effect entriesNot servedIn removedIn firstOf linesOf deliverEmpty deliverLow lowest lawful kept holdersFit permissionsFit rangesFit fewEach held howMany alikeAll allAgree bytesRest wordsRest zeros copyingFrom copyFailure firstFailure extentFailure inside copiedAll copied allowed grantedAll granted allows
 computed =
     record {
       refutes = record {
@@ -118,11 +131,17 @@ computed =
         ninth = λ h. (let z : _≡_ {A = ℕ} 9 8 = h (example 1) (given 1 refl) (Start ∷ []) .records in omega arith);
         longer = λ h. (let z : _≡_ {A = ℕ} 17 16 = h (example 1) (given 1 refl) (Start ∷ []) .places .items in omega arith);
         ninth-count = λ h. (let z : _≡_ {A = ℕ} 9 8 = h (example 1) (given 1 refl) (Start ∷ []) .places .counts in omega arith);
+        next-lost = λ h. (let z : _≡_ {A = ℕ} 0x1000 0x1010 = h copyExample (copy-given refl) begunOnce oneByte .accepted refl .saved in omega arith);
+        copy-leaves = λ h. (let z : _≡_ {A = ℕ} 1 0 = ap (entriesOf 0) (h copyExample (copy-given refl) (Start ∷ Tick 0 ∷ Extra 0 ∷ copyOf 9 [] ∷ []) .queue) in omega arith);
+        moves-none = λ h. (let z : _≡_ {A = ℕ} 8 7 = ap (λ (l : List ℕ). getD l 1 0) (h copyExample (copy-given refl) begunOnce oneByte .copies refl _ _ refl (7 ∷ 8 ∷ 9 ∷ [])) in omega arith);
+        unchecked = λ h. (let z : _≡_ {A = ℕ} 7 8 = ap (λ (l : List ℕ). getD l 1 0) (h copyExample (copy-given refl) begunOnce (copyOf 2 (piece 0 1 1 ∷ piece 0 1 257 ∷ [])) .stays refl (7 ∷ 8 ∷ 9 ∷ [])) in omega arith);
+        two-old-wheels = λ h. (let z : _≡_ {A = ℕ} 8 7 = ap (λ (l : List ℕ). getD l 1 0) (h copyExample (copy-given refl) begunOnce oneByte .copies refl _ _ refl (7 ∷ 8 ∷ 9 ∷ [])) in omega arith);
+        overlapping = λ h. (let z : _≡_ {A = ℕ} 7 8 = ap (λ (l : List ℕ). getD l 2 0) (h copyExample (copy-given refl) begunOnce (copyOf 1 (piece 0 1 2 ∷ [])) .copies refl _ _ refl (7 ∷ 8 ∷ 9 ∷ [])) in omega arith);
       };
       occurs = record { asked = refl; goes-on = refl; spares = refl; named = refl; handed-one = refl; ran = refl; served = refl; requests = refl; granted = refl; removed = refl; standing = refl };
     }
 
--- C3, M1 to M7
+-- C3, M1 to M8
 pub refuted : Refuted
 refuted = computed .refutes
 

@@ -2,6 +2,7 @@ pub mod Examples
 pub mod Copies
 pub mod Worthless
 pub mod Spoilt
+pub mod Copiers
 pub mod Refuted
 pub mod Occurs
 pub mod Broken

@@ -1,13 +1,16 @@
 -- Which demand each worthless core and each easy mistake fails.
 use Prim.Native.Nat.{ℕ}
 use mathlib.Core.Path.{_≡_}
+use Rattle.core.specs.Events.{stepOf}
 use Rattle.promises.specs.Answering.{Removing}
+use Rattle.promises.specs.Copying.{Copies}
 use Rattle.promises.specs.Delivering.{Delivers}
 use Rattle.promises.specs.Framing.{Framed, Starts, Stores}
 use Rattle.promises.specs.Refusing.{Refuses, StaysSound}
 use Rattle.promises.specs.Sharing.{Accounts, Slices, Waiting}
 use Rattle.promises.specs.Timing.{Shows, Table}
 use Rattle.promises.specs.Tracing.{Runs, Traced}
+use Rattle.trials.specs.Copiers.{copiesForwards, copiesHalf, copiesNever, copiesUnchecked, failsUncleared, losesNext}
 use Rattle.trials.specs.Spoilt.{addsCount, addsPlace, addsRecord, callsYield, extraResets, faultsAsStop, faultsWipe, forgetsServed, ignoresWrite, joinsUncounted, losesRestore, lowersOther, moves, restartsRun, restartsUncounted, stopsAsError, stopsHandOn, stopsNot, stopsUncounted, stopsUnused, stopsWipe, straysAtFirst, unstarts, usesUp, writesAll}
 use Rattle.trials.specs.Worthless.{chargesSpare, emptiesPending, forgetsAddress, idleAlways, injectWaits, injectsItsOwn, invents, leavesEntries, lowestFirst, movesAtStop, newestFirst, raisesCopy, refusesAll, repeatsFirst, restartsSilent, shutsAtOnce, tellsAll, tellsNone, tellsServed, untouched}
 
@@ -82,3 +85,11 @@ pub record Refuted : Type 0 where
   pub ninth : Traced addsRecord → ⊥
   pub longer : Traced addsPlace → ⊥
   pub ninth-count : Traced addsCount → ⊥
+  -- a Copy: the next address; the entries of a VM that it ends
+  pub next-lost : Delivers losesNext → ⊥
+  pub copy-leaves : Traced failsUncleared → ⊥
+  -- the bytes of the window: none moves; they move where the Copy fails; not all of them; one that was just written is copied
+  pub moves-none : Copies copiesNever stepOf → ⊥
+  pub unchecked : Copies copiesUnchecked stepOf → ⊥
+  pub two-old-wheels : Copies copiesHalf stepOf → ⊥
+  pub overlapping : Copies copiesForwards stepOf → ⊥
