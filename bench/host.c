@@ -278,11 +278,11 @@ static pieces draw_pieces(const core_regions *r, uint8_t vm) {
     return p;
 }
 
-/* A memory that holds most of the regions of draw_range: at the space's front, or, for those at its end, up to its last byte. */
+/* A memory that holds most of the regions of draw_range: those at the front of the space; or those at its end, and beyond it. */
 static void draw_memory(lent_memory *m) {
     m->size = draw(4) ? 5120 : draw(5120);
     m->base = draw(4) ? 0 : 16 * draw(8);
-    if (draw(4) == 0) m->size = 2048, m->base = -2048u;
+    if (draw(4) == 0) m->size = 2048 + 2048 * draw(2), m->base = -2048u;
     for (unsigned n = 0; n < sizeof m->bytes; n++) m->bytes[n] = (uint8_t)draw(256);
 }
 
