@@ -1,2 +1,3 @@
 pub mod Failing
 pub mod Requests
+pub mod Unique

@@ -1,10 +1,16 @@
 -- No second answer fits (C2): each public function of the core.
-use mathlib.Core.Path.{sym, _∙_}
+use borrow.Fn.Kinds.{Dens, endedOf, resT}
+use contract.Lifetimes.{Lfts}
+use denote.Ref.{now}
+use denote.Triple.Clauses.{AtExit}
+use mathlib.Core.Path.{sym, _∙_, _≡_}
 use Rattle.basis.proofs.Unique.{OneAnswer}
 use Rattle.core.proofs.Core.after.Kinds as core-after-kinds
 use Rattle.core.proofs.Core.after.Reads as core-after-reads
 use Rattle.core.proofs.Core.call.Kinds as core-call-kinds
 use Rattle.core.proofs.Core.call.Reads as core-call-reads
+use Rattle.core.proofs.Core.copy.Kinds as core-copy-kinds
+use Rattle.core.proofs.Core.copy.Reads as core-copy-reads
 use Rattle.core.proofs.Core.extra.Kinds as core-extra-kinds
 use Rattle.core.proofs.Core.extra.Reads as core-extra-reads
 use Rattle.core.proofs.Core.fault.Kinds as core-fault-kinds
@@ -82,3 +88,11 @@ core-after-one κs a x y s t p q = p ∙ sym q
 
 pub core-kept-one : OneAnswer 0 core-kept-kinds.ps core-kept-kinds.r core-kept-reads.Post
 core-kept-one κs a x y s t p q = p ∙ sym q
+
+pub core-copy-one : OneAnswer 1 core-copy-kinds.ps core-copy-kinds.r core-copy-reads.Post
+core-copy-one κs a x y s t p q = p .0 ∙ sym (q .0)
+
+-- nor a second content of the window
+pub core-copy-one-window : (κs : Lfts 1) (a : Dens κs core-copy-kinds.ps) (x y : resT core-copy-kinds.r κs .Denot) (s t : AtExit (endedOf 1 core-copy-kinds.ps core-copy-kinds.r) κs)
+    → core-copy-reads.Post κs a x s → core-copy-reads.Post κs a y t → now (s .1 .1 .0) ≡ now (t .1 .1 .0)
+core-copy-one-window κs a x y s t p q = p .1 ∙ sym (q .1)

@@ -1,3 +1,4 @@
 pub mod Laws
 pub mod Inside
 pub mod Meaning
+pub mod Unique
