@@ -36,7 +36,7 @@ NR == FNR { count[NR] = $1; next }
     }
     put(part[1], part[3], (took - base[part[4]]) / turns)
     if (!(part[1] in kind)) {
-        kind[part[1]] = match(part[1], /^(regions|query): /) ? substr(part[1], 1, RLENGTH - 2) : part[1] ~ /^read/ ? "read" : ""
+        kind[part[1]] = match(part[1], /^(regions|query|copy): /) ? substr(part[1], 1, RLENGTH - 2) : part[1] ~ /^read/ ? "read" : ""
         order[++rows] = part[1]
     }
 }
@@ -59,6 +59,10 @@ END {
     print "\n| access query | `core_allows` | C, checked | C, trusting |"
     print "|---|---|---|---|"
     rows_of("query", "core_allows|C checked|C trusting")
+    print "\n### A Copy in a host\n"
+    print "| Copy | `core_copy` | C, checked | C, trusting | `memmove` alone |"
+    print "|---|---|---|---|---|"
+    rows_of("copy", "core_copy|C checked|C trusting|memmove")
     print "\n### Images\n"
     print "| | ours | C |"
     print "|---|---|---|"

@@ -1,8 +1,8 @@
 /* The library for hosts beside the core in C, one call at a time. For each case and size the call is made again and again on the
    same state, which is put back before each; a mark (bench/icount.c) stands before and after. A line for each such loop tells
    what it was, in the order of the marks: CASE|SIZE|FORM|BASE, where the base is a loop that does all but the call. Before
-   anything is counted, both cores go through the same events, images and access queries, and every answer and state must be the
-   same. */
+   anything is counted, both cores go through the same events, images, access queries and copies, and every answer, state and
+   byte must be the same. */
 #include <stdio.h>
 #include <stdlib.h>
 #include <unistd.h>
@@ -118,7 +118,7 @@ static core_regions draw_regions(unsigned vms, unsigned wanted) {
 static void compare_runs(size z, const core_regions *held, int events) {
     core_state c = fresh_with(z, MIXED, held);
     for (int n = 0; n < events; n++) {
-        core_input e = {.kind = (uint8_t)(0x0f + draw(11)), .byte = (uint8_t)draw(10), .word = draw(40), .next = draw(65536)};
+        core_input e = {.kind = (uint8_t)(0x0f + draw(12)), .byte = (uint8_t)draw(10), .word = draw(40), .next = draw(65536)};
         if (e.kind == CORE_WRITE) e.byte = (uint8_t)(4 * e.byte), e.word = draw(1u << 24);
         if (n % 2) e = (core_input){.kind = CORE_TICK, .word = draw(65536)};
         c = compare("a run", c, e);
@@ -231,6 +231,88 @@ static void compare_queries(size z) {
     if (yes < 1000) fail("too few access queries are yes");
 }
 
+/* The memory of a host, and where it lies for the guests. */
+typedef struct lent_memory {
+    uint8_t bytes[WINDOW_SIZE];
+    size_t size;
+    uint32_t base;
+} lent_memory;
+
+typedef core_answer (*copy_form)(core_state *, const core_pieces *, uint8_t *, size_t, uint32_t);
+
+/* The library's form, for what C asks for. */
+static core_answer ours_copy(core_state *c, const core_pieces *p, uint8_t *memory, size_t size, uint32_t base) {
+    return core_copy(c, *p, memory, size, base);
+}
+
+static bool same_bytes(const lent_memory *a, const lent_memory *b) { return !memcmp(a->bytes, b->bytes, sizeof a->bytes); }
+
+/* A Copy by all forms, from the same state and memory. How it went: its refusal; 10 and the code of its error; 10 where it was done
+   and no byte is another; 0 where bytes are. */
+static unsigned compare_copy(const char *what, core_state from, const core_pieces *p, const lent_memory *m) {
+    static lent_memory k, l;
+    core_state a = from, b = from;
+    k = l = *m;
+    core_answer x = ours_copy(&a, p, k.bytes, k.size, k.base), y = checked_copy(&b, p, l.bytes, l.size, l.base);
+    if (!same_answer(x, y) || !same_state(&a, &b) || !same_bytes(&k, &l)) fail(what);
+    if (!sound(&from)) return x.refusal;
+    l = *m;
+    y = trusting_copy(&from, p, l.bytes, l.size, l.base);
+    if (!same_answer(x, y) || !same_state(&a, &from) || !same_bytes(&k, &l)) fail(what);
+    if (x.refusal || x.notice.kind) return x.notice.kind ? 10u + x.notice.code : x.refusal;
+    return same_bytes(m, &k) ? 10 : 0;
+}
+
+/* An address in a region, mostly one of the VM's, or just before it. */
+static uint32_t draw_address(const core_regions *r, uint8_t vm) {
+    unsigned k = draw(r->count);
+    for (int tries = 0; tries < 20 && r->holders[k] != vm; tries++) k = draw(r->count);
+    return r->starts[k] + draw(16) - (draw(16) == 0);
+}
+
+static core_pieces draw_pieces(const core_regions *r, uint8_t vm) {
+    core_pieces p = {.count = (uint8_t)(draw(8) ? draw(4) : draw(12)), .next = draw(65536)};
+    for (unsigned k = 0; k < CORE_EXTENTS; k++) {
+        p.extents[k] = (core_extent){draw_address(r, vm), draw_address(r, vm), draw(16) ? draw(20) : 250 + draw(10)};
+        if (draw(100) == 0) p.extents[k].length = draw(1u << 24) << 8;
+    }
+    return p;
+}
+
+/* A memory that holds most of the regions of draw_range: those at the front of the space; or those at its end, and beyond it. */
+static void draw_memory(lent_memory *m) {
+    m->size = draw(4) ? 5120 : draw(5120);
+    m->base = draw(4) ? 0 : 16 * draw(8);
+    if (draw(4) == 0) m->size = 2048 + 2048 * draw(2), m->base = -2048u;
+    for (unsigned n = 0; n < sizeof m->bytes; n++) m->bytes[n] = (uint8_t)draw(256);
+}
+
+/* Copies on states of some ticks, on the same not started, and on the same with another byte. */
+static void compare_copies(size z, unsigned *went) {
+    static lent_memory m;
+    for (int n = 0; n < 200; n++) {
+        core_regions held = draw_regions(z.vms, 1 + draw(CORE_REGIONS_EACH * z.vms));
+        core_state c = fresh_with(z, MIXED, &held);
+        if (n % 10) trusting(&c, (core_input){.kind = CORE_START});
+        draw_memory(&m);
+        for (int k = 0; k < 50; k++) {
+            if (k % 5 == 0) trusting(&c, (core_input){.kind = CORE_TICK});
+            core_pieces p = draw_pieces(&held, c.running);
+            went[compare_copy("a Copy", c, &p, &m)]++;
+            core_state other = c;
+            ((uint8_t *)&other)[draw(sizeof other)] = (uint8_t)draw(k % 3 ? 4 : 256);
+            went[compare_copy("a Copy on a state with another byte", other, &p, &m)]++;
+        }
+    }
+}
+
+/* That each refusal and each error of a Copy came up, and bytes that moved. */
+static void all_went(const unsigned *went) {
+    static const uint8_t ways[] = {0, 1, 2, 5, 13, 16, 17};
+    for (unsigned k = 0; k < sizeof ways; k++)
+        if (went[ways[k]] < 100) printf("too few copies went as %u\n", ways[k]), exit(1);
+}
+
 static uint32_t sum; /* of all answers, so that none is left out */
 
 static void add(core_answer a) { sum += a.refusal + a.running + a.address + a.delivered + a.notice.data + a.removed; }
@@ -329,6 +411,33 @@ __attribute__((noinline)) static void loop_allows(const core_config *c, query q)
 __attribute__((noinline)) static void loop_granted(const core_config *c, query q) {
     mark();
     for (int n = 0; n < TURNS; n++) sum += granted(&c->regions, q.vm, q.address, q.length, q.way);
+    mark();
+}
+
+__attribute__((noinline)) static void loop_form(copy_form f, const core_state *from, const core_pieces *p, lent_memory *m) {
+    core_state c;
+    mark();
+    for (int n = 0; n < TURNS; n++) c = *from, keep(&c), add(f(&c, p, m->bytes, m->size, m->base));
+    mark();
+}
+
+__attribute__((noinline)) static void loop_core_copy(const core_state *from, const core_pieces *p, lent_memory *m) {
+    core_state c;
+    mark();
+    for (int n = 0; n < TURNS; n++) c = *from, keep(&c), add(core_copy(&c, *p, m->bytes, m->size, m->base));
+    mark();
+}
+
+/* As many calls as there are extents, and nothing else. */
+__attribute__((noinline)) static void loop_memmove(const core_pieces *p, lent_memory *m) {
+    uint8_t *from[CORE_EXTENTS], *to[CORE_EXTENTS];
+    for (unsigned k = 0; k < CORE_EXTENTS; k++) {
+        from[k] = m->bytes + (p->extents[k].source - m->base);
+        to[k] = m->bytes + (p->extents[k].destination - m->base);
+    }
+    mark();
+    for (int n = 0; n < TURNS; n++)
+        for (unsigned k = 0; k < CORE_EXTENTS; k++) memmove(to[k], from[k], p->extents[k].length);
     mark();
 }
 
@@ -532,6 +641,25 @@ static void count_query(const query_case *t, size z) {
     loop_granted(&c, q);
 }
 
+/* A Copy in the window of a log, which is all VM 0's; the name says to the tables what it is. */
+static void count_copy(const char *what, size z, uint8_t count) {
+    static lent_memory m = {.size = WINDOW_SIZE, .base = WINDOW_BASE};
+    const test_case t = {.before = {TICK}};
+    core_regions held = whole_window();
+    core_state c = state_from(&t, fresh_with(z, MIXED, &held));
+    core_pieces p = {.count = count, .next = 0x1010};
+    for (unsigned k = 0; k < CORE_EXTENTS; k++) {
+        uint32_t source = WINDOW_BASE + CORE_LONGEST * k;
+        p.extents[k] = (core_extent){source, source + WINDOW_SIZE / 2, CORE_LONGEST};
+    }
+    for (unsigned n = 0; n < WINDOW_SIZE; n++) m.bytes[n] = (uint8_t)draw(256);
+    if (compare_copy(what, c, &p, &m) != (count ? 0 : 10)) fail(what);
+    name(what, z.name, "core_copy", "copy"), loop_core_copy(&c, &p, &m);
+    name(what, z.name, "C checked", "copy"), loop_form(checked_copy, &c, &p, &m);
+    name(what, z.name, "C trusting", "copy"), loop_form(trusting_copy, &c, &p, &m);
+    if (count == CORE_EXTENTS) name(what, z.name, "memmove", "empty"), loop_memmove(&p, &m);
+}
+
 static void count_reading(const char *what, size z, const core_regions *held) {
     uint8_t image[LONGEST_IMAGE];
     size_t m = make_image_with(image, z, MIXED, held);
@@ -551,8 +679,11 @@ static void compare_all(size z) {
 }
 
 int main(void) {
+    unsigned went[256] = {0};
     for (int k = 0; k < SIZES; k++) compare_all(sizes[k]);
     all_met();
+    for (int k = 0; k < SIZES; k++) compare_copies(sizes[k], went);
+    all_went(went);
     core_state c = fresh(sizes[0], MIXED);
     printf("turns %d\n", TURNS);
     name("base", "", "empty", ""), loop_empty();
@@ -565,6 +696,8 @@ int main(void) {
             for (int k = cases[n].last ? SIZES - 1 : 0; k < SIZES; k++) count_case(&cases[n], sizes[k]);
     count_regions();
     for (unsigned n = 0; n < sizeof query_cases / sizeof query_cases[0]; n++) count_query(&query_cases[n], sizes[SIZES - 1]);
+    for (int k = 0; k < SIZES; k++) count_copy("copy: 8 extents of 256 bytes", sizes[k], CORE_EXTENTS);
+    for (int k = 0; k < SIZES; k++) count_copy("copy: no extent", sizes[k], 0);
     for (int k = 0; k < SIZES; k++) {
         core_regions held = make_regions(UPWARDS, sizes[k].vms, CORE_REGIONS_EACH * sizes[k].vms, 3);
         count_reading("read", sizes[k], &no_regions);

@@ -12,9 +12,10 @@
  * answers every event with refusal 1 and stays as it is. What no function can find out is this, and the
  * host has to see to it:
  *   - a pointer is not null, has the alignment of its type and points to as much memory as is said. This
- *     holds for the image too where its length is 0;
- *   - `length` is not more than the bytes at `image`;
- *   - while core_live or core_inner runs, nobody else reads or writes the state that it was lent.
+ *     holds for the image too where its length is 0, and for the window where its size is 0;
+ *   - `length` is not more than the bytes at `image`, and `size` not more than those at `window`;
+ *   - while core_live, core_inner or core_copy runs, nobody else reads or writes the state that it was
+ *     lent, nor the window. The state does not lie in the window.
  * Padding between the fields is not part of a value: compare states field by field, not by memcmp.
  */
 #ifndef GERSTENDOCHT_H
@@ -40,7 +41,10 @@ enum { CORE_MAY_READ = 1, CORE_MAY_WRITE = 2, CORE_MAY_EXECUTE = 3 };
 /* The ways of an access (H8): a read is allowed by CORE_MAY_READ and CORE_MAY_WRITE, the others by one permission each. */
 enum { CORE_TO_READ = 1, CORE_TO_WRITE = 2, CORE_TO_EXECUTE = 3 };
 
-/* The kinds of an event (E2 to E10), and which fields of core_input each reads. */
+/* The limits of a Copy (S10): the extents in use, and the bytes of each. */
+enum { CORE_EXTENTS = 8, CORE_LONGEST = 256 };
+
+/* The kinds of an event (E2 to E10, E13), and which fields of core_input each reads. */
 enum {
     CORE_START = 0x10,    /* none */
     CORE_TICK = 0x11,     /* word: the address at which the running VM was interrupted */
@@ -50,11 +54,23 @@ enum {
     CORE_EXTRA = 0x15,    /* byte: a VM */
     CORE_CALL = 0x16,     /* byte: the service, word: the argument, next: the next address */
     CORE_WRITE = 0x17,    /* byte: the offset, word: the value */
-    CORE_FAULT = 0x18     /* byte: the code, word: the data */
+    CORE_FAULT = 0x18,    /* byte: the code, word: the data */
+    CORE_COPY = 0x1a      /* goes by core_copy, with core_pieces: a core_input of this kind is refused with 10 */
 };
 
 /* The standings of a VM (T3); CORE_UNBORN is that of a VM that was never started. */
 enum { CORE_UNBORN = 0, CORE_READY = 1, CORE_STOPPED = 2, CORE_SHUT = 3, CORE_ERROR = 4 };
+
+/* The codes of notice 3 (A5): of a Call, of a Fault, of a Copy. A Copy may have CORE_CODE_PERMISSION too. */
+enum {
+    CORE_CODE_SERVICE = 1,     /* there is no such service. data: the service */
+    CORE_CODE_INTERRUPT = 2,   /* a pseudo-interrupt over 31. data: the argument */
+    CORE_CODE_PERMISSION = 3,  /* of a Fault, data: the Fault's; of a Copy, data: the extent's source, or its destination */
+    CORE_CODE_ALIGNMENT = 4,   /* data: the Fault's */
+    CORE_CODE_INSTRUCTION = 5, /* data: the Fault's */
+    CORE_CODE_COUNT = 6,       /* a count over CORE_EXTENTS. data: the count */
+    CORE_CODE_LENGTH = 7       /* an extent longer than CORE_LONGEST. data: its length */
+};
 
 /* The memory regions, in the order of their records; the places past the count hold zero (H1). */
 typedef struct core_regions {
@@ -136,6 +152,20 @@ typedef struct core_input {
     uint32_t next;
 } core_input;
 
+/* One piece of a Copy (E13): so many bytes, from an address to an address. One of length 0 may have any addresses. */
+typedef struct core_extent {
+    uint32_t source;
+    uint32_t destination;
+    uint32_t length;
+} core_extent;
+
+/* What a Copy asks for (E13). Extents past the count are not looked at. */
+typedef struct core_pieces {
+    uint8_t count; /* how many of the extents are in use */
+    uint32_t next; /* where the VM goes on */
+    core_extent extents[8];
+} core_pieces;
+
 /* A notice (A4, A5): kind 0 is none. */
 typedef struct core_notice {
     uint8_t kind;
@@ -185,11 +215,25 @@ core_answer core_live(core_state *core, core_input event);
 
 /*
  * The same with no test whether the state is sound: for a host that guards its state. Where the state came
- * from core_fresh with fault 0, and nothing but core_live, core_step and core_inner wrote it since, core_inner
+ * from core_fresh with fault 0, and nothing but core_live, core_step, core_inner and core_copy wrote it since, core_inner
  * leaves and answers what core_live does, for less. On any other state use core_live: there core_inner still
  * ends and writes nothing but the state and the answer, but what it answers has no meaning.
  */
 core_answer core_inner(core_state *core, core_input event);
+
+/*
+ * A Copy of the running VM (E13, E14, D31 to D36), on a state that is lent, with the window that is lent for it: `size` bytes
+ * at `window`, which are the VM's memory from the address `base` on. It is all or nothing. First the count is checked, then
+ * every extent in use that is not of length 0: it is not longer than CORE_LONGEST, the VM may read its source and write its
+ * destination (H8 to H10), and both lie in the window. Where something fails, the VM is put in error, with notice 3 and the
+ * code and data of the first failure, and no byte of the window changes; nor does one where the Copy is refused. Otherwise the
+ * extents are copied in their order, each as a whole (it may overlap itself, and take what an earlier one wrote), no other byte
+ * changes, and the VM goes on at `next`.
+ *
+ * The addresses are those that the VM uses, and the window is where the host has the memory behind them. What the window
+ * holds does not matter to the state and the answer; base and size do (D37). The state is tested as by core_live.
+ */
+core_answer core_copy(core_state *core, core_pieces pieces, uint8_t *window, size_t size, uint32_t base);
 
 /*
  * The access query (H8 to H11): whether VM `vm` may access `length` bytes from `address` on, in the way asked. Any

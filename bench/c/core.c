@@ -335,15 +335,15 @@ static bool inside(uint32_t address, uint32_t n, size_t size, uint32_t base) {
 }
 
 /* D33, D34: the code of the first failure with its data, or 0. */
-static uint8_t failure(const core_regions *r, uint8_t vm, const pieces *p, size_t size, uint32_t base, uint32_t *data) {
+static uint8_t failure(const core_regions *r, uint8_t vm, const core_pieces *p, size_t size, uint32_t base, uint32_t *data) {
     unsigned count = p->count;
     *data = count;
-    if (count > MOST_EXTENTS) return 6;
-    for (const extent *x = p->extents, *end = x + count; x < end; x++) {
+    if (count > CORE_EXTENTS) return 6;
+    for (const core_extent *x = p->extents, *end = x + count; x < end; x++) {
         uint32_t n = x->length;
         if (n == 0) continue;
         *data = n;
-        if (n > LONGEST_EXTENT) return 7;
+        if (n > CORE_LONGEST) return 7;
         *data = x->source;
         if (!inside(x->source, n, size, base) || !granted(r, vm, x->source, n, CORE_TO_READ)) return 3;
         *data = x->destination;
@@ -353,13 +353,13 @@ static uint8_t failure(const core_regions *r, uint8_t vm, const pieces *p, size_
 }
 
 /* D36, for extents that were checked; one of length 0 may have any addresses. */
-static void move(const pieces *p, uint8_t *memory, uint32_t base) {
-    for (const extent *x = p->extents, *end = x + p->count; x < end; x++)
+static void move(const core_pieces *p, uint8_t *memory, uint32_t base) {
+    for (const core_extent *x = p->extents, *end = x + p->count; x < end; x++)
         if (x->length) memmove(memory + (x->destination - base), memory + (x->source - base), x->length);
 }
 
 /* D31 to D37. */
-core_answer trusting_copy(core_state *c, const pieces *p, uint8_t *memory, size_t size, uint32_t base) {
+core_answer trusting_copy(core_state *c, const core_pieces *p, uint8_t *memory, size_t size, uint32_t base) {
     if (!c->clock.started) return answer(c, 2);
     if (c->running == CORE_NONE) return answer(c, 5);
     uint32_t data;
@@ -370,7 +370,7 @@ core_answer trusting_copy(core_state *c, const pieces *p, uint8_t *memory, size_
     return answer(c, 0);
 }
 
-core_answer checked_copy(core_state *c, const pieces *p, uint8_t *memory, size_t size, uint32_t base) {
+core_answer checked_copy(core_state *c, const core_pieces *p, uint8_t *memory, size_t size, uint32_t base) {
     if (!sound(c)) return (core_answer){.refusal = 1, .running = CORE_NONE, .delivered = CORE_NONE};
     return trusting_copy(c, p, memory, size, base);
 }

@@ -8,26 +8,16 @@
 
 #include "gerstendocht.h"
 
-/* A Copy: its kind and how long its record is (E13), its limits (S10), and where the window of a log lies (L6). */
-enum { COPY = 0x1a, COPY_BYTES = 102, MOST_EXTENTS = 8, LONGEST_EXTENT = 256, WINDOW_BASE = 0x40000000, WINDOW_SIZE = 16384 };
-
-typedef struct extent {
-    uint32_t source, destination, length;
-} extent;
-
-typedef struct pieces {
-    uint8_t count;
-    uint32_t next;
-    extent extents[MOST_EXTENTS];
-} pieces;
+/* How long the record of a Copy is (E13), and where the window of a log lies (L6). */
+enum { COPY_BYTES = 102, WINDOW_BASE = 0x40000000, WINDOW_SIZE = 16384 };
 
 /* core.c */
 bool sound(const core_state *c);                             /* W1 to W13 */
 core_answer trusting(core_state *c, core_input e);           /* an event, in place, on a state that is sound */
 core_answer checked(core_state *c, core_input e);            /* the test, then the event */
 /* The same for a Copy, with the window that it works on. Where its memory is null, only the state changes. */
-core_answer trusting_copy(core_state *c, const pieces *p, uint8_t *memory, size_t size, uint32_t base);
-core_answer checked_copy(core_state *c, const pieces *p, uint8_t *memory, size_t size, uint32_t base);
+core_answer trusting_copy(core_state *c, const core_pieces *p, uint8_t *memory, size_t size, uint32_t base);
+core_answer checked_copy(core_state *c, const core_pieces *p, uint8_t *memory, size_t size, uint32_t base);
 bool legal(const core_config *c);                            /* S1 to S7, H1 to H6 */
 bool clashes(const core_regions *r, unsigned k);             /* H6 broken by region k and an earlier one */
 bool allows(const core_config *c, uint8_t vm, uint32_t address, uint32_t length, uint8_t way);   /* H8 to H11 */

@@ -1,6 +1,7 @@
 /*
  * Checks, from C, what the lines of a run do not show: that the header's structs lie in memory as the
- * library has them, and what is answered to a state that is not sound and to a kind that is no event's.
+ * library has them, what is answered to a state that is not sound and to a kind that is no event's, and
+ * what a Copy leaves of the state and of the window.
  * It prints what does not hold, and then how many checks passed.
  */
 #include <stdio.h>
@@ -14,6 +15,11 @@ _Static_assert(sizeof(core_queue) == 25, "core_queue");
 _Static_assert(sizeof(core_vm) == 56, "core_vm");
 _Static_assert(sizeof(core_state) == 1384, "core_state");
 _Static_assert(sizeof(core_input) == 12, "core_input");
+_Static_assert(sizeof(core_extent) == 12, "core_extent");
+_Static_assert(sizeof(core_pieces) == 104, "core_pieces");
+_Static_assert(offsetof(core_pieces, next) == 4, "core_pieces: next");
+_Static_assert(offsetof(core_pieces, extents) == 8, "core_pieces: the first extent");
+_Static_assert(offsetof(core_pieces, extents[7]) == 92, "core_pieces: the eighth extent");
 _Static_assert(sizeof(core_answer) == 24, "core_answer");
 _Static_assert(sizeof(core_stepped) == 1408, "core_stepped");
 _Static_assert(sizeof(core_begun) == 1400, "core_begun");
@@ -208,11 +214,186 @@ static void queries(void)
     check("regions that touch are not legal", !core_allows(c, 7, 0x40003f00, 256, CORE_TO_READ));
 }
 
+/* The image of examples/wheels: VM 0 may write 0x40000000 to 0x400003ff and a block that VM 1 may read, VM 1 a frame at 0x40002000. */
+static const uint8_t wheels[] = {1, 2, 1,    2, 0,    0x10, 0, 0, 4, 0x10, 0, 0, 2, 0, 0x20, 0, 0, 4, 0x20, 0, 0,
+                                 5, 0, 2,    0, 0,    0,    0x40, 0xff, 0x03, 0, 0x40,
+                                 5, 0, 2,    0, 0x10, 0,    0x40, 0x3f, 0x10, 0, 0x40,
+                                 5, 1, 1,    0, 0x10, 0,    0x40, 0x3f, 0x10, 0, 0x40,
+                                 5, 1, 2,    0, 0x20, 0,    0x40, 0xff, 0x20, 0, 0x40,
+                                 3, 0, 2, 0, 3, 1, 1, 0, 3, 0xff, 1, 0, 4};
+
+enum { BASE = 0x40000000, SIZE = 16384, BLOCK = 0x40001000, FRAME = 0x40002000, EDGE = 64 };
+
+/* The window, with an edge on each side that no Copy may touch; and all that it is to hold. */
+static uint8_t memory[SIZE + 2 * EDGE], wanted[SIZE + 2 * EDGE];
+
+static uint8_t *held(uint8_t *bytes, uint32_t address)
+{
+    return bytes + EDGE + (address - BASE);
+}
+
+/* Bytes that differ from their neighbours, in both. */
+static void fill(void)
+{
+    for (size_t i = 0; i < sizeof memory; i++)
+        memory[i] = wanted[i] = (uint8_t)(i * 7 + i / 256);
+}
+
+/* One extent is to be copied (D36), as its bytes stand. */
+static void copied(core_extent x)
+{
+    memmove(held(wanted, x.destination), held(wanted, x.source), x.length);
+}
+
+/* The record of the VM that runs. Where none does, a check has failed: then any record. */
+static core_vm *runner(core_state *core)
+{
+    return &core->vms[core->running % CORE_VMS];
+}
+
+/* A Copy that is done (D31, D36): the VM goes on at its next address, and nothing else of the state changes. */
+static core_answer goes_on(core_state *core, uint32_t next)
+{
+    runner(core)->address = next;
+    return (core_answer){.running = core->running, .address = next, .delivered = CORE_NONE};
+}
+
+/* A Copy that ends its VM (D31, D33, D34): at its next address as a Fault, with a code of its own (A5). */
+static core_answer fails(core_state *core, uint32_t next, uint8_t code, uint32_t data)
+{
+    runner(core)->address = next;
+    core_answer a = core_live(core, (core_input){.kind = CORE_FAULT, .byte = CORE_CODE_PERMISSION, .word = data});
+    a.notice.code = code;
+    return a;
+}
+
+/* A Copy that is refused (R2, R3): the state stays. */
+static core_answer refused(const core_state *core, uint8_t number)
+{
+    uint8_t vm = number == 1 ? CORE_NONE : core->running;
+    return (core_answer){.refusal = number, .running = vm, .address = vm == CORE_NONE ? 0 : core->vms[vm].address, .delivered = CORE_NONE};
+}
+
+/* Whether a Copy, with the window of `size` bytes from `base` on, answers and leaves what it has to; all bytes are compared. */
+static core_answer copy_in(const char *what, uint32_t base, size_t size, core_state *core, core_pieces p, core_state after, core_answer answer)
+{
+    core_answer a = core_copy(core, p, held(memory, base), size, base);
+    check(what, same_answer(a, answer));
+    check(what, same_core(core, &after));
+    check(what, memcmp(memory, wanted, sizeof memory) == 0);
+    return a;
+}
+
+/* A Copy on a core of its own has to fail with a code and data (D33 to D35), and no byte moves. */
+static void copy_fails(const char *what, uint32_t base, size_t size, core_state core, core_pieces p, uint8_t code, uint32_t data)
+{
+    uint8_t vm = core.running;
+    core_vm *record = runner(&core);
+    core_state after = core;
+    core_answer answer = fails(&after, p.next, code, data);
+    core_notice n = copy_in(what, base, size, &core, p, after, answer).notice;
+    check(what, n.kind == 3 && n.vm == vm && n.code == code && n.data == data && core.running == CORE_NONE &&
+        record->standing == CORE_ERROR && record->address == p.next);
+}
+
+/* A Copy has to be done: so many of its extents are copied, in their order. */
+static void copy_goes(const char *what, core_state *core, core_pieces p)
+{
+    core_state after = *core;
+    core_answer answer = goes_on(&after, p.next);
+    for (int i = 0; i < p.count; i++)
+        copied(p.extents[i]);
+    copy_in(what, BASE, SIZE, core, p, after, answer);
+}
+
+/* A Copy has to be refused with a number, and no byte moves (D35). */
+static void copy_refused(const char *what, core_state core, core_pieces p, uint8_t number)
+{
+    core_state before = core;
+    copy_in(what, BASE, SIZE, &core, p, before, refused(&before, number));
+}
+
+/* Copies (E13, E14, D31 to D37): refused, done, and ending their VM. */
+static void copies(void)
+{
+    const core_pieces four = {4, 0x1010, {{BASE, BLOCK, 16}, {BASE + 0x100, BLOCK + 16, 16}, {BASE + 0x200, BLOCK + 32, 16}, {BASE + 0x300, BLOCK + 48, 16}}};
+    core_begun begun = core_fresh(wheels, sizeof wheels);
+    core_state core = begun.core;
+    check("the wheels are read", begun.fault == 0 && core.config.regions.count == 4);
+    fill();
+
+    copy_refused("a Copy before Start", core, four, 2);
+    send(&core, CORE_START, 0, 0, 0);
+    copy_refused("a Copy while no VM runs", core, four, 5);
+    send(&core, CORE_TICK, 0, 0, 0);
+    core_state broken = core;
+    broken.vms[7].ran = 1;
+    copy_refused("a Copy on a state that is not sound", broken, four, 1);
+    core_answer a = send(&core, CORE_COPY, 4, 0x1010, 0x1010);
+    check("a Copy without its extents is no event", same_answer(a, refused(&core, 10)));
+
+    copy_goes("four wheels", &core, four);
+    copy_goes("an extent over itself, then what it wrote; one past the count", &core,
+        (core_pieces){2, 0x1014, {{BASE, BASE + 8, 16}, {BASE + 8, BLOCK, 16}, {0, 0, 300}}});
+    copy_goes("an extent over itself, downwards", &core, (core_pieces){1, 0x1018, {{BASE + 0x181, BASE + 0x180, 256}}});
+    copy_goes("eight extents, the longest and the shortest", &core,
+        (core_pieces){8, 0xfffffffe, {{BASE, BASE + 0x100, 256}, {BASE + 0x100, BASE + 0x200, 256}, {BASE + 0x2ff, BASE, 1},
+        {BASE + 0x3ff, BLOCK + 0x3f, 1}, {BLOCK, BLOCK + 1, 63}, {BLOCK + 1, BLOCK, 63}, {BASE + 0x80, BASE, 256}, {BASE, BASE, 256}}});
+    core_state after = core;
+    a = goes_on(&after, 0x1020);
+    copy_in("extents of length 0, at any address and with no window", BASE, 0, &core, (core_pieces){2, 0x1020, {{0xffffffff, 0, 0}, {0, 0xffffffff, 0}}}, after, a);
+    after = core;
+    a = goes_on(&after, 0x1024);
+    copy_in("no extent", BASE, 0, &core, (core_pieces){0, 0x1024, {{0, 0, 0xffffffff}}}, after, a);
+
+    send(&core, CORE_EXTRA, 0, 0, 0);
+    core_pieces p = four;
+    p.count = 9;
+    copy_fails("a count over 8", BASE, SIZE, core, p, CORE_CODE_COUNT, 9);
+    p.count = 255;
+    copy_fails("the greatest count", BASE, SIZE, core, p, CORE_CODE_COUNT, 255);
+    p = four;
+    p.extents[3].length = 257;
+    p.extents[3].source = 0;
+    copy_fails("an extent longer than 256, before its source", BASE, SIZE, core, p, CORE_CODE_LENGTH, 257);
+    p = four;
+    p.extents[3].source = BASE + 0x3f1;
+    p.extents[3].destination = FRAME;
+    copy_fails("a source that may not be read, before its destination", BASE, SIZE, core, p, CORE_CODE_PERMISSION, BASE + 0x3f1);
+    p = four;
+    p.extents[3].destination = BLOCK + 49;
+    copy_fails("a destination one byte past the block", BASE, SIZE, core, p, CORE_CODE_PERMISSION, BLOCK + 49);
+    p.extents[2].source = FRAME;
+    copy_fails("the first failure counts", BASE, SIZE, core, p, CORE_CODE_PERMISSION, FRAME);
+    copy_fails("a source below the window", BASE + 1, SIZE - 1, core, four, CORE_CODE_PERMISSION, BASE);
+    copy_fails("a destination past the window", BASE, 0x103f, core, four, CORE_CODE_PERMISSION, BLOCK + 48);
+
+    after = core;
+    a = goes_on(&after, four.next);
+    for (int i = 0; i < 4; i++)
+        copied(four.extents[i]);
+    copy_in("a window that ends with the block", BASE, 0x1040, &core, four, after, a);
+    after = core;
+    p = four;
+    p.extents[3].destination += 8;
+    a = fails(&after, p.next, CORE_CODE_PERMISSION, BLOCK + 56);
+    copy_in("the fourth wheel astray", BASE, SIZE, &core, p, after, a);
+    check("its request is removed", a.removed == 1 && core.queue.len == 0);
+    copy_refused("a Copy after that", core, four, 5);
+
+    send(&core, CORE_TICK, 0, 0, 0);
+    a = send(&core, CORE_TICK, 0, 0, 0);
+    check("the display runs", a.running == 1 && a.address == 0x2000);
+    copy_goes("the display takes the block", &core, (core_pieces){1, 0x2010, {{BLOCK, FRAME, 64}}});
+    copy_fails("the display may not write the block", BASE, SIZE, core, (core_pieces){1, 0x2014, {{FRAME, BLOCK, 1}}}, CORE_CODE_PERMISSION, BLOCK);
+}
+
 int main(void)
 {
     worked_run();
     full_run();
     queries();
+    copies();
     printf("%u checks passed, %u failed\n", passed, failed);
     return failed != 0;
 }

@@ -4,7 +4,7 @@ use mathlib.Core.Path.{refl}
 use denote.Memory.{lone}
 use denote.Struct.Declared.{shape}
 use denote.Struct.Laws as LL
-use mir.Syntax.{tyArray, tyInt, w8}
+use mir.Syntax.{tyArray, tyInt, w32, w8}
 use Rattle.change.proofs.Answer as R
 use Rattle.change.proofs.Answer.Laws as R′
 use Rattle.config.proofs.Config as G
@@ -18,6 +18,7 @@ use Rattle.core.specs.declared.After.{After}
 use Rattle.core.specs.declared.Core.{Core}
 use Rattle.core.specs.declared.Stepped.{Stepped}
 use Rattle.guest.proofs.Vm as M
+use Rattle.live.proofs.Beside.{number}
 use Rattle.live.proofs.Input as N
 use Rattle.live.proofs.Input.Laws as N′
 use Rattle.live.proofs.Local.{Together}
@@ -25,6 +26,8 @@ use Rattle.live.proofs.Stores.{Parts, State}
 use Rattle.live.proofs.Walk.{Data, Outcome, struct}
 use Rattle.queue.proofs.Queue as Q
 use Rattle.table.proofs.Clock as K
+use Rattle.window.proofs.Pieces as P
+use Rattle.window.proofs.Pieces.Laws as P′
 
 abbrev pub core : Data
 core = struct C.the-type C′.the-laws C′.the-plain
@@ -34,6 +37,12 @@ answer = struct R.the-type R′.the-laws R′.the-plain
 
 abbrev pub input : Data
 input = struct N.the-type N′.the-laws N′.the-plain
+
+abbrev pub pieces : Data
+pieces = struct P.the-type P′.the-laws P′.the-plain
+
+abbrev pub address : Data
+address = number w32
 
 abbrev pub stepped : Outcome core answer
 stepped = record {

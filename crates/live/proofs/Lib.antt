@@ -1,5 +1,6 @@
 pub mod Walk
 pub mod Stores
+pub mod Beside
 pub mod Checked
 pub mod Local
 pub mod Lent

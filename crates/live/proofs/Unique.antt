@@ -1,4 +1,4 @@
--- No second answer fits, nor a second core where one is lent (C2): over the contract as the source has it, which is `Post`, and for what is walked by hand `clauses`.
+-- No second answer fits, nor a second core where one is lent, nor other bytes where memory is (C2): over the contract as the source has it, which is `Post`, and for what is walked by hand `clauses`.
 use base.Logic.{SProp, ent, id⊢, sep, via}
 use contract.Lifetimes.{Lfts}
 use contract.Monad.{Fun, conj, fact, factI, fact-use, sep→conj}
@@ -15,6 +15,7 @@ use prog.Wp.{Heap}
 use Rattle.basis.proofs.Unique.{OneAnswer}
 use Rattle.live.proofs.core_allows.Kinds as allows-kinds
 use Rattle.live.proofs.core_allows.Reads as allows-reads
+use Rattle.live.proofs.core_copy as copy
 use Rattle.live.proofs.core_fresh.Kinds as fresh-kinds
 use Rattle.live.proofs.core_fresh.Reads as fresh-reads
 use Rattle.live.proofs.core_inner as inner
@@ -52,3 +53,8 @@ module _ {M : Type 1} (𝓤 : URA M) (H : Heap 𝓤) (A : Atoms 𝓤) (mem : Mem
   pub core-step-one : (κs : Lfts 0) (a : Args step.signature κs) (x y : Res step.signature κs) (s t : AtExit step.ended κs)
       → ent 𝓤 (sep 𝓤 (step.clauses 𝓤 H A mem run κs a .ensures tt x s) (step.clauses 𝓤 H A mem run κs a .ensures tt y t)) (fact 𝓤 (x ≡ y))
   core-step-one κs a x y s t = of-both (λ p q. p ∙ sym q)
+
+  -- C1, C2
+  pub core-copy-one : (κs : Lfts 2) (a : Args copy.signature κs) (x y : Res copy.signature κs) (s t : AtExit copy.ended κs)
+      → ent 𝓤 (sep 𝓤 (copy.clauses 𝓤 H A mem run κs a .ensures tt x s) (copy.clauses 𝓤 H A mem run κs a .ensures tt y t)) (fact 𝓤 ((x ≡ y) × (now (s .0) ≡ now (t .0)) × (now (s .1 .1 .0) ≡ now (t .1 .1 .0))))
+  core-copy-one κs a x y s t = of-both (λ p q. (p .1 ∙ sym (q .1), p .0 ∙ sym (q .0), p .2 ∙ sym (q .2)))

@@ -6,15 +6,17 @@ use core::Core;
 use core::Stepped;
 use event::Asked;
 use event::Event;
+use window::Pieces;
 ghost use mathlib.Core.Path.{_≡_};
 ghost use Rattle.basis.specs.Nobody.{nobody};
 ghost use Rattle.change.specs.Answers.{quietly};
 ghost use Rattle.config.specs.Sizes.{access};
 ghost use Rattle.core.specs.Events.{stepOf};
+ghost use Rattle.core.specs.Memory.{copyIn, memoryAfter};
 ghost use Rattle.core.specs.Parts.{partsOf};
 ghost use Rattle.live.specs.Host.{begunFrom, innerBy, stepBy};
 
-// An event as plain numbers: the kind of its record (E2 to E10), then what its body holds. What a kind does not have is not read.
+// An event as plain numbers: the kind of its record (E2 to E10), then what its body holds. What a kind does not have is not read. A Copy (E13) goes by core_copy: its kind is here as one that is no event's.
 #[repr(C)]
 pub struct Input {
     pub kind: u8,
@@ -90,6 +92,16 @@ pub extern "C" fn core_inner(c: &mut Core, e: Input) -> Answer
     c.running = s.running;
     c.queue = s.queue;
     s.answer
+}
+
+// A Copy for a host (T9, E13, E14, D31 to D37): on the core that it lends, with the window that it lends beside it, from the base address on. All of it or nothing (D35). A core that is not sound is refused with 1 (R1).
+#[no_mangle]
+pub extern "C" fn core_copy(c: &mut Core, p: Pieces, m: &mut [u8], base: u32) -> Answer
+    ensures { λ r. ⌜ (now (c .exit) ≡ stepOf (now (c .entry)) (copyIn p base (now (m .entry))) .core) × (r ≡ stepOf (now (c .entry)) (copyIn p base (now (m .entry))) .answer) × (now (m .exit) ≡ memoryAfter (now (c .entry)) (copyIn p base (now (m .entry))) (now (m .entry))) ⌝ }
+{
+    let after = Core::copy(*c, p, m, base);
+    *c = after.core;
+    after.answer
 }
 
 // The access query for a host (H8 to H11).
