@@ -2,6 +2,7 @@
 // They give the parts of the state that an event may change: the configuration is not among them.
 use crate::After;
 use crate::Core;
+use crate::Stepped;
 use basis::places;
 use change::Answer;
 use change::Change;
@@ -70,6 +71,28 @@ impl Core {
             self.tick_done(at)
         } else {
             self.kept(n)
+        }
+    }
+
+    // A Copy but for its bytes, on a state that the caller knows to be sound; as `inner`, by the Copy's own function.
+    pub fn copy_whole(self, p: Pieces, w: Window) -> Stepped
+        ensures { λ r. ⌜ r ≡ innerOf self (Event.Copy p w) ⌝ }
+    {
+        let config = self.config;
+        let t = self.copy_after(p, w);
+        let vms = t.vms;
+        let clock = t.clock;
+        let queue = t.queue;
+        let answer = t.answer;
+        Stepped {
+            core: Core {
+                config: config,
+                clock: clock,
+                running: t.running,
+                queue: queue,
+                vms: vms,
+            },
+            answer: answer,
         }
     }
 

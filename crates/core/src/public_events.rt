@@ -6,7 +6,7 @@ use window::Pieces;
 use window::Window;
 ghost use mathlib.Core.Path.{_≡_};
 ghost use Rattle.core.specs.Events.{innerOf, stepOf};
-ghost use Rattle.core.specs.Memory.{copyIn, memoryAfter};
+ghost use Rattle.core.specs.Memory.{copyIn, innerMemory, memoryAfter};
 
 impl Core {
     // D1, D2. Each event is a method that takes the state by value (K3).
@@ -76,11 +76,21 @@ impl Core {
     pub fn copy(self, p: Pieces, m: &mut [u8], base: u32) -> Stepped
         ensures { λ r. ⌜ (r ≡ stepOf self (copyIn p base (now (m .entry)))) × (now (m .exit) ≡ memoryAfter self (copyIn p base (now (m .entry))) (now (m .entry))) ⌝ }
     {
+        if self.sound() {
+            return self.copied(p, m, base);
+        }
+        self.refused(1)
+    }
+
+    // The same on a state that the caller knows to be sound: it is not tested.
+    pub fn copied(self, p: Pieces, m: &mut [u8], base: u32) -> Stepped
+        ensures { λ r. ⌜ (r ≡ innerOf self (copyIn p base (now (m .entry)))) × (now (m .exit) ≡ innerMemory self (copyIn p base (now (m .entry))) (now (m .entry))) ⌝ }
+    {
         let w = Window {
             base: base,
             size: m.len(),
         };
-        let after = self.step(Event::Copy(p, w));
+        let after = self.copy_whole(p, w);
         if after.answer.refusal != 0 {
             return after;
         }

@@ -14,7 +14,7 @@ use Rattle.basis.specs.Choice.{pick}
 use Rattle.copies.proofs.Requests.{request-fits}
 use Rattle.copies.specs.Failing.{may}
 use Rattle.core.specs.Events.{failureOf}
-use Rattle.core.specs.Memory.{copiedBy, copies, copyIn, memoryAfter}
+use Rattle.core.specs.Memory.{copiedBy, copies, copyIn, memoryAfter, memoryAs}
 use Rattle.core.specs.Refusals.{refusalOf}
 use Rattle.core.specs.declared.Core.{Core}
 use Rattle.core_laws.specs.Wheels.{AllNew, Published}
@@ -28,7 +28,7 @@ use Rattle.window.specs.declared.Pieces.{Pieces}
 
 -- C11, D35 to D37: whatever the event and the state, all extents in use are copied, or every byte is as it was
 pub all-or-nothing : (c : Core) (e : Event) (m : List ℕ) → (memoryAfter c e m ≡ m) ⊎ Published c e m
-unfolding memoryAfter
+unfolding memoryAs
 all-or-nothing c Start m = inl refl
 all-or-nothing c (Tick at) m = inl refl
 all-or-nothing c (Stop v) m = inl refl
@@ -54,7 +54,7 @@ module _ (c : Core) (p : Pieces) (base : ℕ) (m : List ℕ) where
       rw (getD-take (p .count) (extents p) k noExtent low) (f .1 k low)))
 
   copied-new : Apart (take (p .count) (extents p)) → copies c (windowOf base m) p ≡ true → AllNew c p base m
-  unfolding memoryAfter
+  unfolding memoryAs
   copied-new a h k i l d =
       let f = used-fit h in
       let same = getD-take (p .count) (extents p) k noExtent l in
@@ -64,7 +64,7 @@ module _ (c : Core) (p : Pieces) (base : ℕ) (m : List ℕ) where
 
   -- C11: where no extent touches what a later one reads or writes, as with four wheels, every destination is new or no byte is
   pub no-two-old-wheels : Apart (take (p .count) (extents p)) → (memoryAfter c (copyIn p base m) m ≡ m) ⊎ AllNew c p base m
-  unfolding memoryAfter
+  unfolding memoryAs
   no-two-old-wheels a = go (copies c (windowOf base m) p) refl
     where
       go : (b : Bool) → copies c (windowOf base m) p ≡ b → (memoryAfter c (copyIn p base m) m ≡ m) ⊎ AllNew c p base m

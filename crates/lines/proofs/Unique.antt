@@ -14,6 +14,8 @@ use Rattle.lines.proofs.line.put_two.Kinds as put-two-kinds
 use Rattle.lines.proofs.line.put_two.Reads as put-two-reads
 use Rattle.lines.proofs.line.put_two_by.Kinds as put-two-by-kinds
 use Rattle.lines.proofs.line.put_two_by.Reads as put-two-by-reads
+use Rattle.lines.proofs.hex.put_bytes.Kinds as put-bytes-kinds
+use Rattle.lines.proofs.hex.put_bytes.Reads as put-bytes-reads
 use Rattle.lines.proofs.hex.put_image.Kinds as put-image-kinds
 use Rattle.lines.proofs.hex.put_image.Reads as put-image-reads
 
@@ -37,3 +39,6 @@ put-two-by-one κs a x y s t p q = puts-one (p .0) (q .0)
 
 pub put-image-one : OneOutcome 2 put-image-kinds.ps put-image-kinds.r put-image-reads.Post (λ κs s. now (s .0))
 put-image-one κs a x y s t p q = puts-one (p .0) (q .0)
+
+pub put-bytes-one : OneOutcome 2 put-bytes-kinds.ps put-bytes-kinds.r put-bytes-reads.Post (λ κs s. now (s .0))
+put-bytes-one κs a x y s t p q = puts-one (p .0) (q .0)

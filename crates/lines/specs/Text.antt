@@ -21,7 +21,7 @@ runsText running at delivered = choice running 32 ++ (whereText running at ++ ch
 unfoldable pub lineText : ℕ → Answer → List ℕ
 lineText n a = two n (a .refusal) 32 ++ (runsText (a .running) (a .address) (a .delivered) ++ (two (a .notice .kind) (a .result) 32 ++ number (a .removed) 10))
 
--- N10: the first n bytes of an image, two hexadecimal digits each
+-- N10, N27: the first n of some bytes, two hexadecimal digits each
 unfoldable pub bytesText : List ℕ → ℕ → List ℕ
 bytesText bs n = joined (λ k. hexByte (getD bs k 0)) n
 

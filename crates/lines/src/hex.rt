@@ -1,6 +1,5 @@
-// An image as text.
-// The line `image` and the bytes, two hexadecimal digits each.
-ghost use Prim.Native.Nat.{_+_, _≤_};
+// Bytes as text, two hexadecimal digits each, and the line `image`.
+ghost use Prim.Native.Nat.{_*_, _+_, _≤_};
 ghost use lib.ListN.{length};
 ghost use Rattle.lines.specs.Text.{bytesText, imageText};
 ghost use Rattle.text.specs.Puts.{Puts};
@@ -15,9 +14,10 @@ pub fn put_image(b: &mut [u8], bytes: &[u8]) -> usize
     text::put_byte(b, a2, 10)
 }
 
-fn put_bytes(b: &mut [u8], at: usize, bytes: &[u8]) -> usize
-    requires { ⌜ (length (now bytes) ≤ 1036) × (at + 2072 ≤ length (now b)) ⌝ }
-    ensures { λ r. ⌜ Puts (bytesText (now (bytes .entry)) (length (now (bytes .entry)))) (now (b .entry)) at (now (b .exit)) r × (r ≤ at + 2072) ⌝ }
+// N10, N27.
+pub fn put_bytes(b: &mut [u8], at: usize, bytes: &[u8]) -> usize
+    requires { ⌜ at + length (now bytes) * 2 ≤ length (now b) ⌝ }
+    ensures { λ r. ⌜ Puts (bytesText (now (bytes .entry)) (length (now (bytes .entry)))) (now (b .entry)) at (now (b .exit)) r × (r ≤ at + length (now (bytes .entry)) * 2) ⌝ }
 {
     let n = bytes.len();
     let mut to = at;

@@ -5,6 +5,7 @@
 mod hex;
 mod line;
 
+pub use hex::put_bytes;
 pub use hex::put_image;
 pub use line::put_choice;
 pub use line::put_cut;

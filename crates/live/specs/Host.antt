@@ -35,3 +35,7 @@ innerFor c Unknown = refused c 10
 
 abbrev pub innerBy : Core → Input → Stepped
 innerBy c e = innerFor c (askedBy (e .kind) (e .byte) (e .word) (e .next))
+
+-- numbers that are no event's
+abbrev pub nothing : Input
+nothing = record { kind = 0; byte = 0; word = 0; next = 0 }

@@ -99,7 +99,7 @@ pub extern "C" fn core_inner(c: &mut Core, e: Input) -> Answer
 pub extern "C" fn core_copy(c: &mut Core, p: Pieces, m: &mut [u8], base: u32) -> Answer
     ensures { λ r. ⌜ (now (c .exit) ≡ stepOf (now (c .entry)) (copyIn p base (now (m .entry))) .core) × (r ≡ stepOf (now (c .entry)) (copyIn p base (now (m .entry))) .answer) × (now (m .exit) ≡ memoryAfter (now (c .entry)) (copyIn p base (now (m .entry))) (now (m .entry))) ⌝ }
 {
-    let after = Core::copy(*c, p, m, base);
+    let after = copy_of(*c, p, m, base);
     *c = after.core;
     after.answer
 }
@@ -121,6 +121,24 @@ fn inner_after(c: Core, e: Input) -> After
         Asked::Known(event) => c.after(event),
         Asked::Unknown => c.kept(10),
     }
+}
+
+// A Copy by value (T8). What is no event is refused with 10, and with 1 where the state is not sound (R1), so that `core_step` tells whether it
+// is: the state is tested in one place alone, since a test that stands in two is no part of either, and has to copy the state.
+fn copy_of(c: Core, p: Pieces, m: &mut [u8], base: u32) -> Stepped
+    ensures { λ r. ⌜ (r ≡ stepOf c (copyIn p base (now (m .entry)))) × (now (m .exit) ≡ memoryAfter c (copyIn p base (now (m .entry))) (now (m .entry))) ⌝ }
+{
+    let nothing = Input {
+        kind: 0,
+        byte: 0,
+        word: 0,
+        next: 0,
+    };
+    let told = core_step(c, nothing);
+    if told.answer.refusal == 1 {
+        return told;
+    }
+    c.copied(p, m, base)
 }
 
 // The answer of a state that is not sound (R3).

@@ -18,7 +18,7 @@ use Rattle.config.specs.Sizes.{durationAt, durationsFit, hasSlot, legal, owners
 use Rattle.copies.specs.Failing.{copyFailure, extentFailure, firstFailure}
 use Rattle.core.proofs.Inner.{step-unsound}
 use Rattle.core.specs.Events.{done, innerOf, startCore, stepOf, tickClock, tickQueue, tickTurn}
-use Rattle.core.specs.Memory.{memoryAfter}
+use Rattle.core.specs.Memory.{memoryAs}
 use Rattle.core.specs.Refusals.{refusalOf, refused, rowOf}
 use Rattle.core.specs.Sound.{configSound, leftSound, noneReady, queuedReady, slotSound, sound, standingsKnown}
 use Rattle.core.specs.declared.Core.{Core}
@@ -57,7 +57,7 @@ record Computed : Type 0 where
   unsound : AllFalse (soundIn brokenStates)
 
 computed : Computed
-unfolding vectors linesIn callShown removedShown countsShown brokenStates clausesOf good refusedImage readImage readEnd readSlots readVms coreFault ownerFault slotFault vmFault stepOf refusalOf rowOf sound queuedReady noneReady standingsKnown done startCore tickClock tickTurn tickQueue calledFrom runningWithout refused innerOf legal durationsFit ownersFit vmsServed hasSlot vmsRest slotsRest every some upTo joined isField stored write due deliver enter shown highest setBit clearBit pend isFresh isBlank frontOf rest others popped pushed paddedOf countedOf nextClock each restFresh saving runnerOf entering turnBy passed turn stateAfter moments entriesOf lawful kept holdersFit permissionsFit rangesFit fewEach held howMany alikeAll allAgree bytesRest wordsRest zeros readRegions regionFault placeFault agreesAll copyShown tabled memoryAfter copyingFrom copyFailure firstFailure extentFailure inside copiedAll copiedBytes allowed grantedAll granted allows
+unfolding vectors linesIn callShown removedShown countsShown brokenStates clausesOf good refusedImage readImage readEnd readSlots readVms coreFault ownerFault slotFault vmFault stepOf refusalOf rowOf sound queuedReady noneReady standingsKnown done startCore tickClock tickTurn tickQueue calledFrom runningWithout refused innerOf legal durationsFit ownersFit vmsServed hasSlot vmsRest slotsRest every some upTo joined isField stored write due deliver enter shown highest setBit clearBit pend isFresh isBlank frontOf rest others popped pushed paddedOf countedOf nextClock each restFresh saving runnerOf entering turnBy passed turn stateAfter moments entriesOf lawful kept holdersFit permissionsFit rangesFit fewEach held howMany alikeAll allAgree bytesRest wordsRest zeros readRegions regionFault placeFault agreesAll copyShown tabled memoryAs copyingFrom copyFailure firstFailure extentFailure inside copiedAll copiedBytes allowed grantedAll granted allows
 computed =
     record { vectors = refl; good = refl; broken = refl; unsound = (refl, (refl, (refl, (refl, (refl, (refl, (refl, (refl, (refl, (refl, (refl, (refl, (refl, (refl, (refl, (refl, (refl, (refl, tt)))))))))))))))))) }
 

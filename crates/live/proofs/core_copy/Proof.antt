@@ -1,4 +1,4 @@
--- `Core::copy` done where the core stands, with the memory that is lent beside it: the walk, at its contract.
+-- A Copy done where the core stands, with the memory that is lent beside it: the walk, at its contract.
 use mathlib.Core.List.{List}
 use mathlib.Core.Path.{ap}
 use Prim.Native.Nat.{ℕ}
@@ -7,9 +7,9 @@ use contract.Monad.{factI}
 use contract.Running.{givenOf, tables, tablesOf}
 use denote.Triple.Spec.{tripleOf}
 use denote.Triple.Table.{entered, cited}
-use Rattle.core.proofs.Core.copy.Met as copy-thm
-use Rattle.core.proofs.Core.copy.Symbol as copy-def
-use Rattle.core.proofs.Core.copy.Symbol.{name as #copy}
+use Rattle.live.proofs.copy_of.Met as copy-thm
+use Rattle.live.proofs.copy_of.Symbol as copy-def
+use Rattle.live.proofs.copy_of.Symbol.{name as #copy}
 use Rattle.core.specs.Events.{stepOf}
 use Rattle.core.specs.Memory.{copyIn, memoryAfter}
 use Rattle.core.specs.declared.Core.{Core}
@@ -37,4 +37,4 @@ core-copy-spec 𝓤 H 𝓜 𝓖 𝓡 =
     (λ κs a r end. own.clauses 𝓤 H (𝓖 .A) (𝓜 .mem) (𝓡 .run) κs a .ensures tt r end)
     (λ κs a s ys same. factI 𝓤 _ (emp 𝓤) (ap (λ (t : Stepped). t .core) (same .0), ap (λ (t : Stepped). t .answer) (same .0), same .1))
     (tablesOf 𝓤 H 𝓜 (tables 𝓤 H 𝓜 𝓡 code.env)) #copy
-    (cited 𝓤 H (Stepping core pieces address (given core pieces address answer stepped after bytes) after bytes 𝓤 H (𝓖 .A)) 𝓜 𝓡 code.env #copy copy-def.routine code.calls-core·Core·copy (copy-thm.met 𝓤 H 𝓜 𝓖 𝓡)))
+    (cited 𝓤 H (Stepping core pieces address (given core pieces address answer stepped after bytes) after bytes 𝓤 H (𝓖 .A)) 𝓜 𝓡 code.env #copy copy-def.routine code.calls-live·copy-of (copy-thm.met 𝓤 H 𝓜 𝓖 𝓡)))

@@ -1,42 +1,27 @@
--- The event, and then its bytes: they stay where it was refused or failed, and else the extents fit.
+-- Tested, and then the Copy; where the state is not sound no byte moves.
 use borrow.Author.Needs.{needs}
-use Rattle.core.proofs.Copying.{copies-done, copies-fit, stays-failed, stays-refused}
+use Rattle.core.proofs.Copying.{memory-goes, memory-stays}
 use Rattle.core.proofs.Core.copy.Statement.{statement}
 use Rattle.core.proofs.Core.copy.Tie as tie
+use Rattle.core.proofs.Inner.{step-goes, step-stays}
 
-step-requires : tie.Need-step-requires
-step-requires c κs = search needs
+sound-requires : tie.Need-sound-requires
+sound-requires c κs = search needs
 
-returns : tie.Need-returns
-returns c = (c .before .before .step .ensures, stays-refused _ _ _ _ (c .before .before .step .ensures) _ (c .if1 .taken))
-
-returns-2 : tie.Need-returns-2
-returns-2 c = (c .before .before .before .before .step .ensures, stays-failed _ _ _ _ (c .before .before .before .before .step .ensures) _ (c .before .before .if1 .left) (c .if2 .taken))
-
-extents-requires : tie.Need-extents-requires
-extents-requires c κs = search needs
-
-cast-copy-all : tie.Need-cast-copy-all
-cast-copy-all c = search needs
-
-copy-all-requires : tie.Need-copy-all-requires
-copy-all-requires c κs = rw (c .before .before .extents .ensures) (copies-fit _ _ _ _ (c .before .before .before .before .before .before .before .step .ensures) (c .before .before .before .before .before .if1 .left) (c .before .before .before .if2 .left))
+copied-requires : tie.Need-copied-requires
+copied-requires c κs = search needs
 
 same-length : tie.Need-same-length
 same-length c = search needs
 
-returns-3 : tie.Need-returns-3
-returns-3 c = (c .before .before .before .before .before .before .before .before .before .before .step .ensures, copies-done _ _ _ _ (c .before .before .before .before .before .before .before .before .before .before .step .ensures) _ _ _ (c .before .before .before .before .before .before .before .before .if1 .left) (c .before .before .before .before .before .before .if2 .left) (c .before .before .before .before .before .extents .ensures) (c .before .before .copy-all .ensures))
+returns : tie.Need-returns
+returns c = (step-goes _ _ _ _ (c .before .before .before .before .before .sound .ensures) (c .before .before .before .before .if1 .taken) (c .before .before .copied .ensures .0), memory-goes _ _ _ _ _ (c .before .before .before .before .before .sound .ensures) (c .before .before .before .before .if1 .taken) (c .before .before .copied .ensures .1))
+
+refused-requires : tie.Need-refused-requires
+refused-requires c κs = search needs
+
+returns-2 : tie.Need-returns-2
+returns-2 c = (step-stays _ _ _ _ (c .before .before .sound .ensures) (c .before .if1 .left) (c .refused .ensures), memory-stays _ _ _ _ _ (c .before .before .sound .ensures) (c .before .if1 .left))
 
 pub copy-spec : {M : Type 1} → statement M
-copy-spec =
-    tie.close
-    (tie.spec
-    step-requires
-    returns
-    returns-2
-    extents-requires
-    cast-copy-all
-    copy-all-requires
-    same-length
-    returns-3)
+copy-spec = tie.close (tie.spec sound-requires copied-requires same-length returns refused-requires returns-2)
