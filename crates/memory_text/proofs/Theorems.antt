@@ -11,9 +11,10 @@ use native.Mathlib.Omega.{arith}
 use Rattle.basis.proofs.Laws.{every-of, false-true, pick-case}
 use Rattle.basis.specs.Choice.{both, either, pick}
 use Rattle.basis.specs.Count.{joined}
-use Rattle.core.proofs.Copying.{stays-failed, stays-refused}
+use Rattle.core.proofs.Copying.{by-refusal, stays-failed, stays-refused}
 use Rattle.core.specs.Events.{stepOf}
-use Rattle.core.specs.Memory.{copies, copiedBy, memoryAfter}
+use Rattle.core.specs.Memory.{copies, copiedBy, memoryAfter, memoryAs}
+use Rattle.core.specs.Refusals.{refusalOf}
 use Rattle.core.specs.State.{freshCore}
 use Rattle.core.specs.declared.Core.{Core}
 use Rattle.event.specs.Kinds.{isCopy}
@@ -86,7 +87,7 @@ neither-right true b h = false-true (sym h)
 neither-right false b h = h
 
 event-stays : (c : Core) (e : Event) (m : List ℕ) → isCopying c e ≡ false → memoryAfter c e m ≡ m
-unfolding memoryAfter
+unfolding memoryAs
 event-stays c Start m h = refl
 event-stays c (Tick at) m h = refl
 event-stays c (Stop v) m h = refl
@@ -99,8 +100,8 @@ event-stays c (Fault code detail) m h = refl
 event-stays c (Copy p w) m h = go (eqb (stepOf c (Copy p w) .answer .refusal) 0) (eqb (stepOf c (Copy p w) .answer .notice .kind) 0) refl refl h
   where
     go : (a b : Bool) → eqb (stepOf c (Copy p w) .answer .refusal) 0 ≡ a → eqb (stepOf c (Copy p w) .answer .notice .kind) 0 ≡ b → both a b ≡ false → memoryAfter c (Copy p w) m ≡ m
-    go false b x y z = sym (stays-refused c p w (stepOf c (Copy p w)) refl m (eqb-false _ 0 x))
-    go true false x y z = sym (stays-failed c p w (stepOf c (Copy p w)) refl m (eqb-true _ 0 x) (eqb-false _ 0 y))
+    go false b x y z = sym (stays-refused c p w (refusalOf c (Copy p w)) (stepOf c (Copy p w)) (by-refusal c (Copy p w) _ refl) m (eqb-false _ 0 x))
+    go true false x y z = sym (stays-failed c p w (refusalOf c (Copy p w)) (stepOf c (Copy p w)) (by-refusal c (Copy p w) _ refl) m (eqb-true _ 0 x) (eqb-false _ 0 y))
     go true true x y z = false-true (sym z)
 
 events-stay : (c : Core) (es : List Event) (m : List ℕ) → someCopying c es ≡ false → memoryBy c es m ≡ m
@@ -168,7 +169,7 @@ zeros-copied base [] m h = h
 zeros-copied base (x ∷ xs) m h = zeros-copied base xs (moved base x m) (zeros-moved base x m h)
 
 zeros-after : (c : Core) (e : Event) (m : List ℕ) → Zeros m → Zeros (memoryAfter c e m)
-unfolding memoryAfter
+unfolding memoryAs
 zeros-after c Start m h = h
 zeros-after c (Tick at) m h = h
 zeros-after c (Stop v) m h = h
