@@ -49,9 +49,11 @@ module _ (c : Core) (p : Pieces) (base : ℕ) (m : List ℕ) where
   used-fit : copies c (windowOf base m) p ≡ true → (p .count ≤ 8) × allFit base (take (p .count) (extents p)) m
   used-fit h =
       let z = eqb-true (failureOf c (windowOf base m) p .code) 0 (both-right (eqb (refusalOf c (copyIn p base m)) 0) _ h) in
-      let f = request-fits (may (c .config .regions) (c .running)) (windowOf base m) p z in
-      (f .0, λ k l. (let low : k < p .count = omega (arith, length-take (p .count) (extents p)) in
-      rw (getD-take (p .count) (extents p) k noExtent low) (f .1 k low)))
+      let f = request-fits (may (c .config .regions) (c .running)) (windowOf base m) p z in (
+        f .0,
+        λ k l. (let low : k < p .count = omega (arith, length-take (p .count) (extents p)) in
+            rw (getD-take (p .count) (extents p) k noExtent low) (f .1 k low)),
+      )
 
   copied-new : Apart (take (p .count) (extents p)) → copies c (windowOf base m) p ≡ true → AllNew c p base m
   unfolding memoryAs

@@ -98,7 +98,6 @@ module _ (g : Config) (d : Given g) (k : ℕ) (c : Core) (p : Reached g k c) whe
   done-law (Write o x) r = record { queue = refl; ran = λ z. false-true z; removed = refl }
   done-law (Fault n x) r =
       record { queue = entries-without (c .running) (c .queue); ran = λ z. false-true z; removed = refl }
-
   done-law (Copy q w) r =
       copy-case (λ (x : Change). Lawful g (momentOf k c (Copy q w) (changedBy c x))) (c .running) (c .queue) (c .running) (savedAt (q .next) (vmAt c (c .running))) (failureOf c w q .code) (failureOf c w q .detail)
       (λ h. record { queue = refl; ran = λ z. false-true z; removed = refl })

@@ -132,7 +132,6 @@ module _ (f : Vm → ℕ) (steady : Steady f) (g : Config) (d : Given g) (v : �
     done-grown (Call s n at) r = quiet-law (momentOf k c (Call s n at) (done c (Call s n at))) refl refl refl (call-keeps s n at)
     done-grown (Write o x) r = quiet-law (momentOf k c (Write o x) (done c (Write o x))) refl refl refl (change-keeps f c v (renewed c (c .running) (write o x (vmAt c (c .running))) nobody) (steady .wrote o x (vmAt c (c .running))))
     done-grown (Fault n x) r = quiet-law (momentOf k c (Fault n x) (done c (Fault n x))) refl refl refl (change-keeps f c v (failing c (c .running) (vmAt c (c .running)) n x) (steady .ended 4 (vmAt c (c .running))))
-
     done-grown (Copy q w) r =
         quiet-law (momentOf k c (Copy q w) (done c (Copy q w))) refl refl refl
         (change-keeps f c v (copying c w q)

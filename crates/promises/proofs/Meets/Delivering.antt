@@ -168,7 +168,6 @@ module _ (g : Config) (d : Given g) (k : ℕ) (c : Core) (p : Reached g k c) whe
   done-delivers (Call x n at) s r = call-delivers x n at (running-below c (p .shaped .records) (sound-is c s) (row-call c x n at r .1))
   done-delivers (Write o x) s r = refl
   done-delivers (Fault n x) s r = refl
-
   done-delivers (Copy q w) s r = record { never = both .0; saved = both .1 }
     where
       Passes : Change → Type 0

@@ -201,7 +201,6 @@ module _ (g : Config) (d : Given g) (k : ℕ) (c : Core) (p : Reached g k c) whe
   done-field (Write o x) s r v l f h =
       put-part (λ y. valueOf f (y .status)) (c .running) _ v (runner-low s (row-write c o x r .1)) (λ e. write-field f o x (vmAt c (c .running)) ∙ rw (both-off (eqb (c .running) v) _ h e))
   done-field (Fault i x) s r v l f h = keeps-field (c .running) v _ f refl
-
   done-field (Copy q w) s r v l f h =
       copy-case (λ (x : Change). valueOf f (vmAt (changedBy c x .core) v .status) ≡ valueOf f (vmAt c v .status)) (c .running) (c .queue) (c .running) (savedAt (q .next) (vmAt c (c .running))) (failureOf c w q .code) (failureOf c w q .detail)
       (λ i. keeps-field (c .running) v _ f refl) (λ i. keeps-field (c .running) v _ f refl)
@@ -217,7 +216,6 @@ module _ (g : Config) (d : Given g) (k : ℕ) (c : Core) (p : Reached g k c) whe
   done-address (Call i n at) s r v l h = call-address i n at v (runner-low s (row-call c i n at r .1)) h
   done-address (Write o x) s r v l h = store-keeps (λ y. y .address) (c .vms) (c .running) _ (write-address o x (vmAt c (c .running))) v
   done-address (Fault i x) s r v l h = store-keeps (λ y. y .address) (c .vms) (c .running) _ refl v
-
   done-address (Copy q w) s r v l h =
       copy-case (λ (x : Change). vmAt (changedBy c x .core) v .address ≡ vmAt c v .address) (c .running) (c .queue) (c .running) (savedAt (q .next) (vmAt c (c .running))) (failureOf c w q .code) (failureOf c w q .detail)
       (λ i. out _) (λ i. out _)

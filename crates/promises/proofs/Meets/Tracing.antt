@@ -90,7 +90,6 @@ module _ (g : Config) (d : Given g) (k : ℕ) (c : Core) (p : Reached g k c) whe
     done-standing l (Call i n at) s r = call-standing i n at (running-below c (p .shaped .records) (sound-is c s) (row-call c i n at r .1))
     done-standing l (Write o x) s r = store-keeps (λ y. y .standing) (c .vms) (c .running) _ (write-standing o x (vmAt c (c .running))) v
     done-standing l (Fault i x) s r = put-standing (λ t. 4) (c .running) _ (running-below c (p .shaped .records) (sound-is c s) (row-fault c i x r .1)) refl
-
     done-standing l (Copy q w) s r =
         copy-case P (c .running) (c .queue) (c .running) vm (failureOf c w q .code) (failureOf c w q .detail)
         (λ h. store-keeps (λ x. x .standing) (c .vms) (c .running) vm refl v)
