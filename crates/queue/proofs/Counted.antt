@@ -76,7 +76,7 @@ entries-stay v w (x ∷ q) n = go (eqb x w) (eqb x v) (entries-stay v w q n) ref
 pub entries-few : (v : ℕ) (l : List ℕ) → entriesOf v l ≤ length l
 entries-few v l = omega (arith, others-count v l)
 
--- and none where no entry is its
+-- and none where every entry is below v
 pub entries-none : (v : ℕ) (l : List ℕ) → All (λ x. x < v) l → entriesOf v l ≡ 0
 unfolding entriesOf
 entries-none v [] a = refl
