@@ -22,7 +22,7 @@ use Rattle.config.specs.declared.Config.{Config}
 use Rattle.copies.specs.declared.Failure.{Failure}
 use Rattle.core.specs.Changes.{changedBy}
 use Rattle.core.specs.Events.{copying, done, failureOf, innerOf, startCore, stepOf, tickClock, tickOwner, tickQueue, tickTurn}
-use Rattle.core.specs.Parts.{changeAt, changeIn, kept, partsOf}
+use Rattle.core.specs.Parts.{changeAt, changeIn, kept, partsOf, rejoined}
 use Rattle.core.specs.Refusals.{refusalOf, refused, rowOf}
 use Rattle.core.specs.Sound.{sound}
 use Rattle.core.specs.State.{full, readyAt, vmAt}
@@ -105,10 +105,7 @@ inner-config c e = go (eqb (rowOf c e) 0)
     go false = refl
 
 -- a state whose configuration stayed, by the parts that changed
-abbrev pub with-parts : Config → After → Stepped
-with-parts g t = record { core = record { config = g; clock = t .clock; running = t .running; queue = t .queue; vms = t .vms }; answer = t .answer }
-
-pub whole : (s : Stepped) (g : Config) (t : After) → s .core .config ≡ g → t ≡ partsOf s → with-parts g t ≡ s
+pub whole : (s : Stepped) (g : Config) (t : After) → s .core .config ≡ g → t ≡ partsOf s → rejoined g t ≡ s
 whole s g t e h = rw (h, ← e)
 
 -- ---- a tick

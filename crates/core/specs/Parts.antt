@@ -5,6 +5,7 @@ use Rattle.basis.specs.Choice.{pick}
 use Rattle.change.specs.Answers.{quietly}
 use Rattle.change.specs.declared.Change.{Change}
 use Rattle.config.specs.Sizes.{entryAt, handlerAt}
+use Rattle.config.specs.declared.Config.{Config}
 use Rattle.core.specs.Changes.{changedBy}
 use Rattle.core.specs.Refusals.{refused, rowOf}
 use Rattle.core.specs.State.{addressOf, full, vmAt}
@@ -16,6 +17,10 @@ use Rattle.logic.specs.Changing.{changeFrom, placeFrom}
 
 abbrev pub partsOf : Stepped → After
 partsOf s = record { vms = s .core .vms; clock = s .core .clock; running = s .core .running; queue = s .core .queue; answer = s .answer }
+
+-- the state that has these parts, and the configuration, which no event changes
+abbrev pub rejoined : Config → After → Stepped
+rejoined g t = record { core = record { config = g; clock = t .clock; running = t .running; queue = t .queue; vms = t .vms }; answer = t .answer }
 
 -- R2, R3, for a number that is not 1: all as it was, and the answer shows who runs
 abbrev pub kept : Core → ℕ → After

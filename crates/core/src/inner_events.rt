@@ -80,20 +80,7 @@ impl Core {
     {
         let config = self.config;
         let t = self.copy_after(p, w);
-        let vms = t.vms;
-        let clock = t.clock;
-        let queue = t.queue;
-        let answer = t.answer;
-        Stepped {
-            core: Core {
-                config: config,
-                clock: clock,
-                running: t.running,
-                queue: queue,
-                vms: vms,
-            },
-            answer: answer,
-        }
+        t.with_config(config)
     }
 
     fn copy_after(self, p: Pieces, w: Window) -> After

@@ -9,6 +9,7 @@ use guest::Vm;
 use queue::Queue;
 use table::Clock;
 ghost use mathlib.Core.Path.{_≡_};
+ghost use Rattle.core.specs.Parts.{rejoined};
 ghost use Rattle.core.specs.Refusals.{refused};
 ghost use Rattle.core.specs.Sound.{sound};
 ghost use Rattle.core.specs.State.{freshCore};
@@ -37,6 +38,28 @@ pub struct After {
     pub running: u8,
     pub queue: Queue,
     pub answer: Answer,
+}
+
+impl After {
+    // The state that has these parts, and the configuration, which no event changes.
+    pub fn with_config(self, config: Config) -> Stepped
+        ensures { λ r. ⌜ r ≡ rejoined config self ⌝ }
+    {
+        let vms = self.vms;
+        let clock = self.clock;
+        let queue = self.queue;
+        let answer = self.answer;
+        Stepped {
+            core: Core {
+                config: config,
+                clock: clock,
+                running: self.running,
+                queue: queue,
+                vms: vms,
+            },
+            answer: answer,
+        }
+    }
 }
 
 impl Core {

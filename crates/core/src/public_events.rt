@@ -119,19 +119,6 @@ impl Core {
     {
         let config = self.config;
         let t = self.after(e);
-        let vms = t.vms;
-        let clock = t.clock;
-        let queue = t.queue;
-        let answer = t.answer;
-        Stepped {
-            core: Core {
-                config: config,
-                clock: clock,
-                running: t.running,
-                queue: queue,
-                vms: vms,
-            },
-            answer: answer,
-        }
+        t.with_config(config)
     }
 }

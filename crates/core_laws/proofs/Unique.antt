@@ -5,12 +5,18 @@ use denote.Ref.{now}
 use denote.Triple.Clauses.{AtExit}
 use mathlib.Core.Path.{sym, _∙_, _≡_}
 use Rattle.basis.proofs.Unique.{OneAnswer}
+use Rattle.core.proofs.After.with_config.Kinds as with-config-kinds
+use Rattle.core.proofs.After.with_config.Reads as with-config-reads
 use Rattle.core.proofs.Core.after.Kinds as core-after-kinds
 use Rattle.core.proofs.Core.after.Reads as core-after-reads
 use Rattle.core.proofs.Core.call.Kinds as core-call-kinds
 use Rattle.core.proofs.Core.call.Reads as core-call-reads
+use Rattle.core.proofs.Core.copied.Kinds as core-copied-kinds
+use Rattle.core.proofs.Core.copied.Reads as core-copied-reads
 use Rattle.core.proofs.Core.copy.Kinds as core-copy-kinds
 use Rattle.core.proofs.Core.copy.Reads as core-copy-reads
+use Rattle.core.proofs.Core.copy_whole.Kinds as core-copy-whole-kinds
+use Rattle.core.proofs.Core.copy_whole.Reads as core-copy-whole-reads
 use Rattle.core.proofs.Core.extra.Kinds as core-extra-kinds
 use Rattle.core.proofs.Core.extra.Reads as core-extra-reads
 use Rattle.core.proofs.Core.fault.Kinds as core-fault-kinds
@@ -96,3 +102,16 @@ core-copy-one κs a x y s t p q = p .0 ∙ sym (q .0)
 pub core-copy-one-window : (κs : Lfts 1) (a : Dens κs core-copy-kinds.ps) (x y : resT core-copy-kinds.r κs .Denot) (s t : AtExit (endedOf 1 core-copy-kinds.ps core-copy-kinds.r) κs)
     → core-copy-reads.Post κs a x s → core-copy-reads.Post κs a y t → now (s .1 .1 .0) ≡ now (t .1 .1 .0)
 core-copy-one-window κs a x y s t p q = p .1 ∙ sym (q .1)
+
+pub core-with-config-one : OneAnswer 0 with-config-kinds.ps with-config-kinds.r with-config-reads.Post
+core-with-config-one κs a x y s t p q = p ∙ sym q
+
+pub core-copy-whole-one : OneAnswer 0 core-copy-whole-kinds.ps core-copy-whole-kinds.r core-copy-whole-reads.Post
+core-copy-whole-one κs a x y s t p q = p ∙ sym q
+
+pub core-copied-one : OneAnswer 1 core-copied-kinds.ps core-copied-kinds.r core-copied-reads.Post
+core-copied-one κs a x y s t p q = p .0 ∙ sym (q .0)
+
+pub core-copied-one-window : (κs : Lfts 1) (a : Dens κs core-copied-kinds.ps) (x y : resT core-copied-kinds.r κs .Denot) (s t : AtExit (endedOf 1 core-copied-kinds.ps core-copied-kinds.r) κs)
+    → core-copied-reads.Post κs a x s → core-copied-reads.Post κs a y t → now (s .1 .1 .0) ≡ now (t .1 .1 .0)
+core-copied-one-window κs a x y s t p q = p .1 ∙ sym (q .1)
