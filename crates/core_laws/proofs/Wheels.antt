@@ -2,12 +2,12 @@
 use Prim.Native.Nat.{ℕ, _<_, _≤_}
 use borrow.Author.Tests.{eqb-true}
 use lib.Dec.{eqb}
-use lib.ListN.{getD, length, length-take, take}
+use lib.ListN.{getD, length-take, take}
 use lib.Seq.{getD-take}
 use mathlib.Core.Bool.{Bool, false, true}
 use mathlib.Core.List.{List}
-use mathlib.Core.Logic.{inl, inr, _⊎_, ⊎-elim}
-use mathlib.Core.Path.{ap, refl, sym, _∙_, _≡_}
+use mathlib.Core.Logic.{inl, inr, _⊎_}
+use mathlib.Core.Path.{ap, refl, _∙_, _≡_}
 use native.Mathlib.Omega.{arith}
 use Rattle.basis.proofs.Laws.{both-right}
 use Rattle.basis.specs.Choice.{pick}
@@ -21,8 +21,8 @@ use Rattle.core_laws.specs.Wheels.{AllNew, Published}
 use Rattle.event.specs.declared.Event.the-variants.{Call, Copy, Extra, Fault, Restart, Shutdown, Start, Stop, Tick, Write}
 use Rattle.event.specs.declared.Event.{Event}
 use Rattle.window.proofs.Meaning.{copied-each}
-use Rattle.window.specs.Pieces.{copiedAll, extents, fits, noExtent, windowOf}
-use Rattle.window.specs.Ranges.{Apart, allFit, inDestination, sourceOf}
+use Rattle.window.specs.Pieces.{extents, noExtent, windowOf}
+use Rattle.window.specs.Ranges.{Apart, allFit, sourceOf}
 use Rattle.window.specs.declared.Extent.{Extent}
 use Rattle.window.specs.declared.Pieces.{Pieces}
 

@@ -1,11 +1,10 @@
 -- What is not to be done with the bytes of the window, and cores that do a Copy wrong (M8).
-use Prim.Native.Nat.{suc, zero, ℕ, _+_, _-_}
+use Prim.Native.Nat.{suc, zero, ℕ, _-_}
 use lib.ListN.{getD, set, take}
 use mathlib.Core.List.{List, [], _∷_}
 use Rattle.core.specs.Memory.{copiedBy}
 use Rattle.core.specs.State.{vmAt, withQueue, withVm}
 use Rattle.event.specs.declared.Event.the-variants.{Call, Copy, Extra, Fault, Restart, Shutdown, Start, Stop, Tick, Write}
-use Rattle.event.specs.declared.Event.{Event}
 use Rattle.guest.specs.Record.{savedAt}
 use Rattle.history.specs.History.{Behaviour}
 use Rattle.promises.specs.Copying.{Copier}

@@ -11,7 +11,7 @@ use mathlib.Core.Path.{ap, refl, sym, _∙_, _≡_}
 use native.Mathlib.Decide.{decLe, decLt, ℕ-discrete}
 use native.Mathlib.Omega.{arith}
 use Rattle.basis.proofs.Laws.{both-left, both-right, false-true}
-use Rattle.basis.specs.Choice.{both, pick}
+use Rattle.basis.specs.Choice.{pick}
 use Rattle.window.proofs.Inside.{fits-bounds}
 use Rattle.window.proofs.Laws.{copied-append, moved-none}
 use Rattle.window.specs.Bytes.{copied}

@@ -16,7 +16,7 @@ use Rattle.core.specs.Refusals.{refusalOf, refused}
 use Rattle.core.specs.declared.Core.{Core}
 use Rattle.event.specs.declared.Event.the-variants.{Call, Copy, Extra, Fault, Restart, Shutdown, Start, Stop, Tick, Write}
 use Rattle.event.specs.declared.Event.{Event}
-use Rattle.history.specs.History.{moment, next, stateOf, ticksOf}
+use Rattle.history.specs.History.{moment, stateOf, ticksOf}
 use Rattle.promises.specs.Copying.{Copies, copying}
 use Rattle.window.specs.Pieces.{copiedAll, extents}
 use Rattle.window.specs.declared.Pieces.{Pieces}

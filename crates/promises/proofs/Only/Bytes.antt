@@ -4,7 +4,6 @@ use mathlib.Core.Bool.{Bool, false, true}
 use mathlib.Core.List.{List, [], _++_, _∷_}
 use mathlib.Core.Path.{ap, refl, subst, sym, _∙_, _≡_}
 use Rattle.basis.proofs.Laws.{both-left, both-right, false-true}
-use Rattle.basis.specs.Choice.{both}
 use Rattle.config.specs.Ranges.{Given}
 use Rattle.config.specs.declared.Config.{Config}
 use Rattle.core.specs.Events.{stepOf}
@@ -16,10 +15,9 @@ use Rattle.event.specs.declared.Event.the-variants.{Call, Copy, Extra, Fault, R
 use Rattle.event.specs.declared.Event.{Event}
 use Rattle.history.proofs.More.{state-more}
 use Rattle.history.specs.History.{Behaviour, Moment, next, stateAfter, stateOf, went}
-use Rattle.history.specs.Moments.{tellsError}
 use Rattle.promises.proofs.Meets.All.{ours-rules}
 use Rattle.promises.proofs.Meets.Copying.{ours-copies}
-use Rattle.promises.proofs.Only.Runs.{same-moment, same-run}
+use Rattle.promises.proofs.Only.Runs.{same-moment}
 use Rattle.promises.specs.Copying.{Copier, Copies, bytesAfter, copying}
 use Rattle.promises.specs.Demands.{Rules}
 use Rattle.window.specs.declared.Pieces.{Pieces}
