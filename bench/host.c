@@ -114,25 +114,18 @@ static core_regions draw_regions(unsigned vms, unsigned wanted) {
     return r;
 }
 
-static unsigned passes; /* the ticks compared that took an entry from behind a paused VM's */
-
 /* Any events, on states of which now and then one byte is another: any byte, or, where there are regions, mostly one of theirs. */
 static void compare_runs(size z, const core_regions *held, int events) {
-    static const uint8_t queueing[] = {CORE_EXTRA, CORE_EXTRA, CORE_PAUSE, CORE_RESUME};
     core_state c = fresh_with(z, MIXED, held);
     for (int n = 0; n < events; n++) {
-        core_input e = {.kind = (uint8_t)(0x0f + draw(15)), .byte = (uint8_t)draw(10), .word = draw(40), .next = draw(65536)};
+        core_input e = {.kind = (uint8_t)(0x0f + draw(12)), .byte = (uint8_t)draw(10), .word = draw(40), .next = draw(65536)};
         if (e.kind == CORE_WRITE) e.byte = (uint8_t)(4 * e.byte), e.word = draw(1u << 24);
         if (n % 2) e = (core_input){.kind = CORE_TICK, .word = draw(65536)};
-        if (n % 4 == 2) e = (core_input){.kind = queueing[draw(4)], .byte = (uint8_t)draw(z.vms)};
-        core_state from = c;
         c = compare("a run", c, e);
-        bool paused = from.vms[from.queue.items[0]].standing == CORE_PAUSED;
-        passes += e.kind == CORE_TICK && paused && c.queue.len < from.queue.len;
         core_state other = c;
         size_t at = draw(sizeof other);
         if (held->count && draw(4)) at = offsetof(core_state, config.regions) + draw(sizeof *held);
-        ((uint8_t *)&other)[at] = (uint8_t)draw(n % 3 ? 7 : 256);
+        ((uint8_t *)&other)[at] = (uint8_t)draw(n % 3 ? 4 : 256);
         compare("a state with another byte", other, e);
     }
 }
@@ -142,11 +135,6 @@ static void compare_held_runs(size z) {
         core_regions held = draw_regions(z.vms, CORE_REGIONS_EACH * z.vms - draw(6));
         compare_runs(z, &held, 200);
     }
-}
-
-/* That entries of paused VMs stood in the way. */
-static void enough_passes(void) {
-    if (passes < 100) printf("too few ticks took an entry from behind a paused VM's\n"), exit(1);
 }
 
 static bool met[256]; /* the faults of the images compared */
@@ -299,7 +287,7 @@ static void draw_memory(lent_memory *m) {
     for (unsigned n = 0; n < sizeof m->bytes; n++) m->bytes[n] = (uint8_t)draw(256);
 }
 
-/* Copies on states of some ticks and pauses, on the same not started, and on the same with another byte. */
+/* Copies on states of some ticks, on the same not started, and on the same with another byte. */
 static void compare_copies(size z, unsigned *went) {
     static lent_memory m;
     for (int n = 0; n < 200; n++) {
@@ -309,11 +297,10 @@ static void compare_copies(size z, unsigned *went) {
         draw_memory(&m);
         for (int k = 0; k < 50; k++) {
             if (k % 5 == 0) trusting(&c, (core_input){.kind = CORE_TICK});
-            if (draw(4) == 0) trusting(&c, (core_input){.kind = (uint8_t)(CORE_PAUSE + draw(2)), .byte = (uint8_t)draw(z.vms)});
             core_pieces p = draw_pieces(&held, c.running);
             went[compare_copy("a Copy", c, &p, &m)]++;
             core_state other = c;
-            ((uint8_t *)&other)[draw(sizeof other)] = (uint8_t)draw(k % 3 ? 7 : 256);
+            ((uint8_t *)&other)[draw(sizeof other)] = (uint8_t)draw(k % 3 ? 4 : 256);
             went[compare_copy("a Copy on a state with another byte", other, &p, &m)]++;
         }
     }
@@ -454,16 +441,15 @@ __attribute__((noinline)) static void loop_memmove(const core_pieces *p, lent_me
     mark();
 }
 
-/* What is done to the state of a case once its events are through. VMs 0 and 1 fill the queue in turn, or 1 has the last place. */
-typedef enum spoiled { NOTHING, FILL, FILL_LAST, EARLY, LATE } spoiled;
+/* What is done to the state of a case once its events are through. */
+typedef enum spoiled { NOTHING, FILL, EARLY, LATE } spoiled;
 
-/* A case: the events after Start that lead to its state, those behind what is spoiled, and the event that is counted. A kind of 0
-   ends a row. One that is `roomy` needs a queue of more than one place. */
+/* A case: the events after Start that lead to its state, and the event that is counted. A kind of 0 ends a row. */
 typedef struct test_case {
     const char *name;
-    core_input before[8], then[2], event;
+    core_input before[8], event;
     spoiled spoiled;
-    bool chain, fresh, last, late, roomy;
+    bool chain, fresh, last, late;
 } test_case;
 
 #define TICK {.kind = CORE_TICK, .word = 0x1000}
@@ -472,8 +458,6 @@ typedef struct test_case {
 #define WRITE(offset, value) {.kind = CORE_WRITE, .byte = offset, .word = value}
 #define FAULT(code) {.kind = CORE_FAULT, .byte = code, .word = 0x2000}
 #define OFFERED(bit) {TICK, TICK, WRITE(8, bit), WRITE(32, bit)}
-#define PAUSE(vm) MASTER(CORE_PAUSE, vm)
-#define INTO_SPARE(how, ...) .before = {TICK, TICK, TICK}, .spoiled = how, .then = {__VA_ARGS__}, .event = TICK
 
 /* In all sizes slot 0 is VM 0's for 1 tick, slot 1 is VM 1's for 2 ticks, slot 2 is spare. */
 static const test_case cases[] = {
@@ -481,12 +465,8 @@ static const test_case cases[] = {
     {.name = "Tick, the slot lasts", .before = {TICK, TICK}, .event = TICK},
     {.name = "Tick, into a named slot", .before = {TICK}, .event = TICK},
     {.name = "Tick, into a slot whose VM is stopped", .before = {TICK, MASTER(CORE_STOP, 1)}, .event = TICK},
-    {.name = "Tick, into a slot whose VM is paused", .before = {TICK, PAUSE(1)}, .event = TICK},
     {.name = "Tick, into a spare slot, the queue is empty", .before = {TICK, TICK, TICK}, .event = TICK},
     {.name = "Tick, into a spare slot, the queue is full", .before = {TICK, TICK, TICK}, .spoiled = FILL, .event = TICK},
-    {.name = "Tick, into a spare slot, past 1 entry of a paused VM, queue 8 / 16", INTO_SPARE(FILL, PAUSE(0)), .roomy = true},
-    {.name = "Tick, into a spare slot, past all entries but 1, queue 8 / 16", INTO_SPARE(FILL_LAST, PAUSE(0)), .roomy = true},
-    {.name = "Tick, into a spare slot, the queue is full of paused VMs", INTO_SPARE(FILL, PAUSE(0), PAUSE(1))},
     {.name = "Tick that delivers 31", .before = OFFERED(1u << 31), .event = TICK},
     {.name = "Tick that delivers 16", .before = OFFERED(1u << 16), .event = TICK},
     {.name = "Tick that delivers 0", .before = OFFERED(1), .event = TICK},
@@ -503,10 +483,6 @@ static const test_case cases[] = {
     {.name = "Restart, the queue is full", .before = {TICK}, .spoiled = FILL, .event = MASTER(CORE_RESTART, 1)},
     {.name = "Extra", .before = {TICK}, .event = MASTER(CORE_EXTRA, 1)},
     {.name = "Extra, refused with 6", .before = {TICK}, .spoiled = FILL, .event = MASTER(CORE_EXTRA, 1)},
-    {.name = "Pause", .before = {TICK}, .event = PAUSE(1)},
-    {.name = "Pause, refused with 4", .before = {TICK, PAUSE(1)}, .event = PAUSE(1)},
-    {.name = "Resume", .before = {TICK, PAUSE(1)}, .event = MASTER(CORE_RESUME, 1)},
-    {.name = "Resume, refused with 11", .before = {TICK}, .event = MASTER(CORE_RESUME, 1)},
     {.name = "Call 0, nothing is due", .before = {TICK}, .event = CALL(0, 0)},
     {.name = "Call 1, nothing is due", .before = {TICK}, .event = CALL(1, 0)},
     {.name = "Call 2, not enabled", .before = {TICK}, .event = CALL(2, 7)},
@@ -533,11 +509,9 @@ static const test_case cases[] = {
 static core_state state_from(const test_case *t, core_state c) {
     if (!t->fresh) trusting(&c, (core_input){.kind = CORE_START});
     for (int n = 0; n < 8 && t->before[n].kind; n++) trusting(&c, t->before[n]);
-    for (int n = 0, room = c.config.room; (t->spoiled == FILL || t->spoiled == FILL_LAST) && n < room; n++)
-        trusting(&c, (core_input){.kind = CORE_EXTRA, .byte = t->spoiled == FILL ? n % 2 : n == room - 1});
+    for (int n = 0; t->spoiled == FILL && n < CORE_ROOM; n++) trusting(&c, (core_input){.kind = CORE_EXTRA, .byte = n % 2});
     if (t->spoiled == EARLY) c.config.count = 0;
     if (t->spoiled == LATE) c.running = 1;
-    for (int n = 0; n < 2 && t->then[n].kind; n++) trusting(&c, t->then[n]);
     return c;
 }
 
@@ -707,7 +681,6 @@ static void compare_all(size z) {
 int main(void) {
     unsigned went[256] = {0};
     for (int k = 0; k < SIZES; k++) compare_all(sizes[k]);
-    enough_passes();
     all_met();
     for (int k = 0; k < SIZES; k++) compare_copies(sizes[k], went);
     all_went(went);
@@ -720,7 +693,7 @@ int main(void) {
         if (cases[n].late)
             count_case(&cases[n], late);
         else
-            for (int k = cases[n].last ? SIZES - 1 : cases[n].roomy; k < SIZES; k++) count_case(&cases[n], sizes[k]);
+            for (int k = cases[n].last ? SIZES - 1 : 0; k < SIZES; k++) count_case(&cases[n], sizes[k]);
     count_regions();
     for (unsigned n = 0; n < sizeof query_cases / sizeof query_cases[0]; n++) count_query(&query_cases[n], sizes[SIZES - 1]);
     for (int k = 0; k < SIZES; k++) count_copy("copy: 8 extents of 256 bytes", sizes[k], CORE_EXTENTS);

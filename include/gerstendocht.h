@@ -44,7 +44,7 @@ enum { CORE_TO_READ = 1, CORE_TO_WRITE = 2, CORE_TO_EXECUTE = 3 };
 /* The limits of a Copy (S10): the extents in use, and the bytes of each. */
 enum { CORE_EXTENTS = 8, CORE_LONGEST = 256 };
 
-/* The kinds of an event (E2 to E10, E13, E15, E16), and which fields of core_input each reads. */
+/* The kinds of an event (E2 to E10, E13), and which fields of core_input each reads. */
 enum {
     CORE_START = 0x10,    /* none */
     CORE_TICK = 0x11,     /* word: the address at which the running VM was interrupted */
@@ -55,17 +55,11 @@ enum {
     CORE_CALL = 0x16,     /* byte: the service, word: the argument, next: the next address */
     CORE_WRITE = 0x17,    /* byte: the offset, word: the value */
     CORE_FAULT = 0x18,    /* byte: the code, word: the data */
-    CORE_COPY = 0x1a,     /* goes by core_copy, with core_pieces: a core_input of this kind is refused with 10 */
-    CORE_PAUSE = 0x1b,    /* byte: a VM */
-    CORE_RESUME = 0x1c    /* byte: a VM */
+    CORE_COPY = 0x1a      /* goes by core_copy, with core_pieces: a core_input of this kind is refused with 10 */
 };
 
-/*
- * The standings of a VM (T3); CORE_UNBORN is that of a VM that was never started. One that is CORE_PAUSED gets no tick until
- * Resume makes it CORE_READY again; its address, its fields and its entries in the queue stay (D38 to D41). A VM that is paused
- * while it runs is still the one that runs, until there is a tick: until then the host hands over what it does.
- */
-enum { CORE_UNBORN = 0, CORE_READY = 1, CORE_STOPPED = 2, CORE_SHUT = 3, CORE_ERROR = 4, CORE_PAUSED = 5 };
+/* The standings of a VM (T3); CORE_UNBORN is that of a VM that was never started. */
+enum { CORE_UNBORN = 0, CORE_READY = 1, CORE_STOPPED = 2, CORE_SHUT = 3, CORE_ERROR = 4 };
 
 /* The codes of notice 3 (A5): of a Call, of a Fault, of a Copy. A Copy may have CORE_CODE_PERMISSION too. */
 enum {
@@ -108,10 +102,9 @@ typedef struct core_clock {
 } core_clock;
 
 /*
- * The queue for extra time: the first `len` places, the oldest entry first; the others hold zero. A spare tick takes the oldest
- * entry whose VM is ready; those of a paused VM keep their places (D7). counts[v] is how many of the entries are VM v's, in every
- * sound state: a console need not walk the queue. The events keep the counts (T10); a host reads them, and a state in which one
- * of the eight is wrong is not sound (W13).
+ * The queue for extra time: the first `len` places, the oldest entry first; the others hold zero. counts[v] is how many of the
+ * entries are VM v's, in every sound state: a console need not walk the queue. The events keep the counts (T10); a host reads
+ * them, and a state in which one of the eight is wrong is not sound (W13).
  */
 typedef struct core_queue {
     uint8_t items[16];
@@ -182,9 +175,8 @@ typedef struct core_notice {
 } core_notice;
 
 /*
- * An answer (A1). `refusal` is 0 where the event was done, a number of R1 (1 to 9; 11: Resume of a VM that
- * is not paused), or 10 where the kind is no event's; with 10 the state stays, and the answer shows who
- * runs, as any refusal does (R2, R3).
+ * An answer (A1). `refusal` is 0 where the event was done, a number of R1, or 10 where the kind is no
+ * event's; with 10 the state stays, and the answer shows who runs, as any refusal does (R2, R3).
  */
 typedef struct core_answer {
     uint8_t refusal;

@@ -93,16 +93,13 @@ static bool unborn(const core_vm *v) {
             s->restore | s->ontick | s->running | v->age | v->ran) == 0;
 }
 
-/* Of W4 and W10: whether there is such a VM, ready or paused. */
-static bool alive(const core_state *c, uint8_t vm) {
-    return vm < CORE_VMS && (c->vms[vm].standing == CORE_READY || c->vms[vm].standing == CORE_PAUSED);
-}
+static bool ready(const core_state *c, uint8_t vm) { return vm < CORE_VMS && c->vms[vm].standing == CORE_READY; }
 
 /* W2, and W12 of the VM records; `anyone`: whether some VM is ready. */
 static bool sound_vms(const core_state *c, bool *anyone) {
     *anyone = false;
     for (unsigned i = 0; i < CORE_VMS; i++) {
-        if (c->vms[i].standing > CORE_PAUSED) return false;
+        if (c->vms[i].standing > CORE_ERROR) return false;
         *anyone |= c->vms[i].standing == CORE_READY;
         if (i >= c->config.count && !unborn(&c->vms[i])) return false;
     }
@@ -114,7 +111,7 @@ static bool sound_queue(const core_state *c) {
     const core_queue *q = &c->queue;
     if (q->len > c->config.room) return false;
     for (unsigned k = 0; k < q->len; k++)
-        if (!alive(c, q->items[k])) return false;
+        if (!ready(c, q->items[k])) return false;
     uint8_t counts[CORE_VMS] = {0};
     for (unsigned k = 0; k < q->len; k++) counts[q->items[k]]++;
     return zeros(q->items + q->len, CORE_ROOM - q->len) && memcmp(counts, q->counts, CORE_VMS) == 0;
@@ -130,7 +127,7 @@ static bool sound_clock(const core_state *c, bool anyone) {
     if (k->slot >= c->config.slots || k->left < 1 || k->left > c->config.durations[k->slot]) return false;
     if (!runs) return true;
     uint8_t owner = c->config.owners[k->slot];
-    return alive(c, c->running) && (owner == c->running || owner == CORE_NONE);
+    return ready(c, c->running) && (owner == c->running || owner == CORE_NONE);
 }
 
 bool sound(const core_state *c) {
@@ -218,16 +215,14 @@ static void move_clock(core_state *c) {
     k->left = c->config.durations[k->slot];
 }
 
-/* D6, D7: who runs at this tick; of the queue the oldest entry whose VM is ready leaves. */
+/* D6, D7: who runs at this tick. */
 static uint8_t runner(core_state *c) {
     uint8_t owner = c->config.owners[c->clock.slot];
     if (owner != CORE_NONE) return c->vms[owner].standing == CORE_READY ? owner : CORE_NONE;
     core_queue *q = &c->queue;
-    unsigned len = q->len, k = 0;
-    while (k < len && c->vms[q->items[k]].standing != CORE_READY) k++;
-    if (k == len) return CORE_NONE;
-    uint8_t vm = q->items[k];
-    memmove(q->items + k, q->items + k + 1, CORE_ROOM - 1 - k);
+    if (q->len == 0) return CORE_NONE;
+    uint8_t vm = q->items[0];
+    memmove(q->items, q->items + 1, CORE_ROOM - 1);
     q->items[CORE_ROOM - 1] = 0;
     q->len--;
     q->counts[vm]--;
@@ -302,7 +297,7 @@ static core_answer master(core_state *c, uint8_t kind, uint8_t vm) {
         a.removed = removed;
         return a;
     }
-    if (v->standing != CORE_READY && (v->standing != CORE_PAUSED || kind == CORE_EXTRA)) return answer(c, 4);
+    if (v->standing != CORE_READY) return answer(c, 4);
     if (kind == CORE_STOP) return end_vm(c, vm, CORE_STOPPED, (core_notice){.kind = 1, .vm = vm});
     if (kind == CORE_EXTRA) return answer(c, join(c, vm) ? 0 : 6);
     v->status.pending |= 1u << 11;
@@ -315,24 +310,11 @@ static core_answer write_field(core_state *c, uint8_t offset, uint32_t value) {
     return answer(c, 0);
 }
 
-/* Pause and Resume: the rows 2, 3, 4 and 11 of R1, then the other standing (D38, D41). A kind that is no event's is refused. */
-static core_answer pausing(core_state *c, core_input e) {
-    bool pause = e.kind == CORE_PAUSE;
-    if (!pause && e.kind != CORE_RESUME) return answer(c, 10);
-    if (!c->clock.started) return answer(c, 2);
-    if (e.byte >= c->config.count) return answer(c, 3);
-    core_vm *v = &c->vms[e.byte];
-    if (v->standing != (pause ? CORE_READY : CORE_PAUSED)) return answer(c, pause ? 4 : 11);
-    v->standing = pause ? CORE_PAUSED : CORE_READY;
-    return answer(c, 0);
-}
-
-/* Most events are ticks: they come first. */
 core_answer trusting(core_state *c, core_input e) {
-    if (e.kind == CORE_TICK) return c->clock.started ? tick(c, e.word) : answer(c, 2);
-    if (e.kind < CORE_START || e.kind > CORE_FAULT) return pausing(c, e);
+    if (e.kind < CORE_START || e.kind > CORE_FAULT) return answer(c, 10);
     if (e.kind == CORE_START) return start(c);
     if (!c->clock.started) return answer(c, 2);
+    if (e.kind == CORE_TICK) return tick(c, e.word);
     if (e.kind <= CORE_EXTRA) return master(c, e.kind, e.byte);
     if (c->running == CORE_NONE) return answer(c, 5);
     if (e.kind == CORE_CALL) return call(c, e.byte, e.word, e.next);

@@ -1,7 +1,7 @@
 /*
  * Checks, from C, what the lines of a run do not show: that the header's structs lie in memory as the
- * library has them, what is answered to a state that is not sound and to a kind that is no event's, what a
- * Copy leaves of the state and of the window, and what Pause and Resume leave of the state.
+ * library has them, what is answered to a state that is not sound and to a kind that is no event's, and
+ * what a Copy leaves of the state and of the window.
  * It prints what does not hold, and then how many checks passed.
  */
 #include <stdio.h>
@@ -388,183 +388,12 @@ static void copies(void)
     copy_fails("the display may not write the block", BASE, SIZE, core, (core_pieces){1, 0x2014, {{FRAME, BLOCK, 1}}}, CORE_CODE_PERMISSION, BLOCK);
 }
 
-/* Pause and Resume have to change a standing, and that is all (D38, D41). */
-static void becomes(const char *what, core_state *core, uint8_t kind, uint8_t vm, uint8_t standing)
-{
-    core_state after = *core;
-    after.vms[vm].standing = standing;
-    core_answer a = send(core, kind, vm, 0, 0);
-    check(what, same_answer(a, refused(&after, 0)));
-    check(what, same_core(core, &after));
-}
-
-/* An event of the master has to be refused with a number, and the state stays (R2, R3). */
-static void master_refused(const char *what, core_state *core, uint8_t kind, uint8_t vm, uint8_t number)
-{
-    core_state before = *core;
-    core_answer a = send(core, kind, vm, 0, 0);
-    check(what, same_answer(a, refused(&before, number)));
-    check(what, same_core(core, &before));
-}
-
-/* A tick has to run a VM at an address, or nobody. */
-static void tick_runs(const char *what, core_state *core, uint32_t at, uint8_t vm, uint32_t address)
-{
-    core_answer a = send(core, CORE_TICK, 0, at, 0);
-    check(what, a.refusal == 0 && a.running == vm && a.address == address && a.delivered == CORE_NONE && a.removed == 0);
-}
-
-/* The queue has to hold so many entries, with zeros behind them (W5), and to count them (T10). */
-static void holds(const char *what, const core_state *core, uint8_t len, const uint8_t items[16])
-{
-    uint8_t counts[8] = {0};
-    for (int i = 0; i < len; i++)
-        counts[items[i]]++;
-    check(what, core->queue.len == len && memcmp(core->queue.items, items, 16) == 0 && memcmp(core->queue.counts, counts, 8) == 0);
-}
-
-/* X1's image with a queue size of 4, after the events of P12: VM 0 runs, and the queue holds 0, 1, 0. */
-static core_state asked_for(void)
-{
-    static const core_input events[] = {{.kind = CORE_START}, {.kind = CORE_TICK}, {.kind = CORE_EXTRA, .byte = 0},
-                                        {.kind = CORE_EXTRA, .byte = 1}, {.kind = CORE_CALL, .byte = 4, .next = 0x1010}};
-    uint8_t b[sizeof image];
-    memcpy(b, image, sizeof b);
-    b[2] = 4;
-    core_state core = core_fresh(b, sizeof b).core;
-    for (size_t i = 0; i < sizeof events / sizeof events[0]; i++)
-        core_live(&core, events[i]);
-    return core;
-}
-
-/* P23, D39: a VM that is paused while it runs still calls, writes and copies, and what ends it ends it; the refusals of R1. */
-static void paused_runner(void)
-{
-    core_state core = asked_for();
-    holds("the queue of P12", &core, 3, (uint8_t[16]){0, 1, 0});
-    becomes("Pause of the VM that runs", &core, CORE_PAUSE, 0, 5);
-    check("it still runs", core.running == 0 && core.vms[0].standing == CORE_PAUSED);
-    core_answer a = send(&core, CORE_CALL, 4, 0, 0x1018);
-    check("it asks for extra time", a.refusal == 0 && a.running == 0 && a.address == 0x1018 && a.result == 0);
-    holds("its entry joins", &core, 4, (uint8_t[16]){0, 1, 0, 0});
-    master_refused("Extra for a paused VM", &core, CORE_EXTRA, 0, 4);
-    master_refused("Pause of a paused VM", &core, CORE_PAUSE, 0, 4);
-    master_refused("Resume of a VM that is ready", &core, CORE_RESUME, 1, 11);
-    master_refused("Pause of an unknown VM", &core, CORE_PAUSE, 2, 3);
-    master_refused("Resume of an unknown VM", &core, CORE_RESUME, 2, 3);
-    a = send(&core, CORE_WRITE, 28, 0x5eed, 0);
-    check("it writes", a.refusal == 0 && a.running == 0 && core.vms[0].status.restore == 0x5eed);
-
-    core_state other = core;
-    a = send(&other, CORE_CALL, 3, 0, 0x101c);
-    check("it shuts itself down", a.notice.kind == 2 && a.removed == 3 && a.running == CORE_NONE && other.vms[0].standing == CORE_SHUT);
-    holds("and its entries go", &other, 1, (uint8_t[16]){1});
-    master_refused("Pause of a VM that is shut down", &other, CORE_PAUSE, 0, 4);
-    master_refused("Resume of a VM that is shut down", &other, CORE_RESUME, 0, 11);
-    other = core;
-    a = send(&other, CORE_FAULT, 4, 7, 0);
-    check("it goes into error", a.notice.kind == 3 && a.notice.data == 7 && a.removed == 3 && other.vms[0].standing == CORE_ERROR);
-    other = core;
-    tick_runs("the tick ends its run", &other, 0x1024, CORE_NONE, 0);
-    check("and stores its address", other.vms[0].address == 0x1024 && other.vms[0].standing == CORE_PAUSED);
-    other = core;
-    becomes("Resume of the VM that runs", &other, CORE_RESUME, 0, CORE_READY);
-    tick_runs("and its slot lasts", &other, 0x1020, 0, 0x1020);
-
-    core = core_fresh(wheels, sizeof wheels).core;
-    send(&core, CORE_START, 0, 0, 0);
-    send(&core, CORE_TICK, 0, 0, 0);
-    becomes("Pause before a Copy", &core, CORE_PAUSE, 0, CORE_PAUSED);
-    fill();
-    copy_goes("a paused VM copies", &core, (core_pieces){1, 0x1010, {{BASE, BLOCK, 16}}});
-    copy_fails("a paused VM copies astray", BASE, SIZE, core, (core_pieces){1, 0x1014, {{BASE, FRAME, 1}}}, CORE_CODE_PERMISSION, FRAME);
-}
-
-/* P24, P25, D38, D40, D41, D7: its slot is missed, its entries are passed over and stay, it ages, and it goes on where it was. */
-static void paused_and_resumed(void)
-{
-    core_state core = asked_for();
-    becomes("Pause", &core, CORE_PAUSE, 0, CORE_PAUSED);
-    tick_runs("its slot is missed", &core, 0x1010, CORE_NONE, 0);
-    holds("by the queue too", &core, 3, (uint8_t[16]){0, 1, 0});
-    tick_runs("VM 1 has its slot", &core, 0, 1, 0x2000);
-    tick_runs("the spare tick passes it over", &core, 0x2008, 1, 0x2008);
-    holds("the second entry is taken", &core, 2, (uint8_t[16]){0, 0});
-    core_vm *v = &core.vms[0];
-    check("it ages, and stays", v->standing == CORE_PAUSED && v->age == 4 && v->ran == 1 && v->address == 0x1010 && v->status.since == 1);
-
-    core_state other = core;
-    send(&other, CORE_EXTRA, 1, 0, 0);
-    send(&other, CORE_EXTRA, 1, 0, 0);
-    send(&other, CORE_TICK, 0, 0x2010, 0);
-    send(&other, CORE_TICK, 0, 0, 0);
-    send(&other, CORE_TICK, 0, 0, 0);
-    tick_runs("the next spare tick", &other, 0x2018, 1, 0x2018);
-    holds("all other entries keep their order", &other, 3, (uint8_t[16]){0, 0, 1});
-
-    becomes("Resume", &core, CORE_RESUME, 0, CORE_READY);
-    tick_runs("it goes on at its address", &core, 0x2010, 0, 0x1010);
-    check("and sees its age", v->age == 5 && v->ran == 2 && v->status.since == 5 && v->status.running == 2);
-    tick_runs("for its whole slot", &core, 0x1020, 0, 0x1020);
-    tick_runs("then VM 1", &core, 0x1030, 1, 0x2010);
-    tick_runs("and has its extra time", &core, 0x2018, 0, 0x1030);
-    holds("its first entry is taken", &core, 1, (uint8_t[16]){0});
-}
-
-/* P26: where all are paused the core idles; then Stop (D14), Shutdown (D17) and Restart (D18). */
-static void all_paused(void)
-{
-    core_state core = asked_for();
-    becomes("Pause of VM 0", &core, CORE_PAUSE, 0, CORE_PAUSED);
-    becomes("Pause of VM 1", &core, CORE_PAUSE, 1, CORE_PAUSED);
-    for (int i = 0; i < 3; i++)
-        tick_runs("nobody runs", &core, i == 0 ? 0x1010 : 0, CORE_NONE, 0);
-    check("the last tick was spare", core.clock.slot == 2);
-    holds("and took nothing", &core, 3, (uint8_t[16]){0, 1, 0});
-    core_state other = core;
-    core_answer a = send(&other, CORE_STOP, 0, 0, 0);
-    check("Stop of a paused VM", a.removed == 2 && a.notice.kind == 1 && a.notice.vm == 0 && other.vms[0].standing == CORE_STOPPED);
-    holds("removes its entries", &other, 1, (uint8_t[16]){1});
-    other = core;
-    a = send(&other, CORE_SHUTDOWN, 0, 0, 0);
-    check("Shutdown of a paused VM", a.refusal == 0 && other.vms[0].status.pending == 0x800 && other.vms[0].standing == CORE_PAUSED);
-    other = core;
-    a = send(&other, CORE_RESTART, 0, 0, 0);
-    check("Restart of a paused VM", a.removed == 2 && other.vms[0].standing == CORE_READY && other.vms[0].address == 0x1000);
-    holds("removes its entries, too", &other, 1, (uint8_t[16]){1});
-}
-
-/* What is sound with a paused VM (W4, W7, W10, W12), in states that a host wrote; and the kinds of E15, E16 before Start. */
-static void paused_by_hand(void)
-{
-    const core_input tick = {.kind = CORE_TICK, .word = 0x1010};
-    core_state core = asked_for(), other = core, fresh = core_fresh(image, sizeof image).core;
-    other.vms[0].standing = other.vms[1].standing = CORE_PAUSED;
-    check("paused entries and a paused runner", send_to(&other, 0, tick).refusal == 0 && other.running == CORE_NONE);
-    other = core;
-    other.vms[1].standing = CORE_ERROR;
-    check("the entry of a VM in error", send_to(&other, 0, tick).refusal == 1);
-    other = core;
-    other.vms[1].standing = 6;
-    check("a standing that there is not", send_to(&other, 0, tick).refusal == 1);
-    check("the kind behind Resume's", send(&core, CORE_RESUME + 1, 0, 0, 0).refusal == 10);
-
-    master_refused("Pause before Start", &fresh, CORE_PAUSE, 0, 2);
-    master_refused("Resume of an unknown VM before Start", &fresh, CORE_RESUME, 2, 2);
-    fresh.vms[0].standing = CORE_PAUSED;
-    check("paused before Start", send_to(&fresh, 0, (core_input){.kind = CORE_START}).refusal == 0 && fresh.vms[0].standing == CORE_READY);
-}
-
 int main(void)
 {
     worked_run();
     full_run();
     queries();
     copies();
-    paused_runner();
-    paused_and_resumed();
-    all_paused();
-    paused_by_hand();
     printf("%u checks passed, %u failed\n", passed, failed);
     return failed != 0;
 }

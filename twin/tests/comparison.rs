@@ -11,8 +11,6 @@ use twin::coverage::reports::ReportCoverage;
 use twin::edges::reports::edge_reports;
 use twin::generate::case::CaseMaker;
 use twin::report::folder::ReportFolder;
-use twin::run::frames::Case;
-use twin::run::text::many_text;
 
 const TWIN: &str = env!("CARGO_BIN_EXE_twin");
 
@@ -165,16 +163,16 @@ fn too_few_cases_are_said_to_be_too_few() {
     assert!(outcome.text.contains("points were never reached"), "{}", outcome.text);
 }
 
-/// H1 to H11, I6, I8, I9, I15, T10, E13, D31 to D41, N9, N13 to N28, M1 to M9: every easy mistake and every
+/// H1 to H11, I6, I8, I9, I15, T10, E13, D31 to D37, N9, N13 to N28, M1 to M8: every easy mistake and every
 /// other wrong twin is told from the right one.
 #[test]
 fn every_wrong_twin_is_told_apart() {
     let (text, well) = selftest(1, 500);
     assert!(well, "{text}");
-    assert_eq!(text.matches("told apart at case").count(), 187);
-    assert_eq!(text.matches("told apart at folder").count(), 20);
+    assert_eq!(text.matches("told apart at case").count(), 137);
+    assert_eq!(text.matches("told apart at folder").count(), 19);
     assert_eq!(text.matches("told apart at query folder").count(), 32);
-    assert_eq!(text.matches("told apart at memory folder").count(), 23);
+    assert_eq!(text.matches("told apart at memory folder").count(), 22);
     let (text, well) = selftest(1, 1);
     assert!(!well && text.contains("NEVER told apart in 1 cases"));
     assert!(text.contains("NEVER told apart in 1 folders"));
@@ -182,8 +180,8 @@ fn every_wrong_twin_is_told_apart() {
     assert!(text.contains("NEVER told apart in 1 memory folders"));
 }
 
-/// H1 to H7, I8, I9, I15, T10, A4, A5, R1, D13, D31 to D36, D38 to D41: every fault, notice, code and refusal,
-/// every number at every delivery, every queue count up, down and away, every way of a copy and of a pause.
+/// H1 to H7, I8, I9, I15, T10, A4, A5, R1, D13, D31 to D36: every fault, notice, code and refusal, every
+/// number at every delivery, every queue count up, down and away, and every way of a copy.
 #[test]
 fn the_edge_cases_alone_reach_every_point() {
     for seed in 0..3 {
@@ -238,7 +236,7 @@ fn the_fixed_cases_alone_reach_every_point_of_the_counts() {
     }
     let mut points = coverage.points();
     points.retain(|(name, _)| name.starts_with("counts: "));
-    assert_eq!(points.len(), 8 * 6 + 9 + 8 + 14, "{points:?}");
+    assert_eq!(points.len(), 8 * 6 + 9 + 7 + 14, "{points:?}");
     assert_eq!(never_reached(points), Vec::<String>::new());
 }
 
@@ -252,42 +250,8 @@ fn the_random_cases_alone_reach_the_points_of_the_counts() {
     }
     let mut points = coverage.points();
     points.retain(|(name, _)| name.starts_with("counts: ") && !name.ends_with(" comes to 16"));
-    assert_eq!(points.len(), 8 * 5 + 9 + 8 + 14, "{points:?}");
+    assert_eq!(points.len(), 8 * 5 + 9 + 7 + 14, "{points:?}");
     assert_eq!(never_reached(points), Vec::<String>::new());
-}
-
-/// D38 to D41: the random cases come by every point of pausing without the fixed ones, but that fifteen or sixteen
-/// entries are passed over.
-#[test]
-fn the_random_cases_alone_reach_the_points_of_pausing() {
-    let maker = CaseMaker::new(1);
-    let mut coverage = Coverage::default();
-    for number in maker.edge_count()..maker.edge_count() + 2_000 {
-        coverage.observe(&maker.case(number));
-    }
-    let mut points = coverage.points();
-    points.retain(|(name, _)| name.starts_with("pause"));
-    assert_eq!(points.len(), 8 * 4 + 12 + 48 + 4, "{points:?}");
-    let missing = never_reached(points);
-    assert!(
-        missing.iter().all(|name| name.ends_with(" 15 entries") || name.ends_with(" 16 entries")),
-        "{missing:?}"
-    );
-}
-
-/// D38 to D41, M9: a twin with one of these broken is told from the right one by random cases alone.
-#[test]
-fn the_random_cases_alone_find_every_wrong_twin_of_pausing() {
-    let maker = CaseMaker::new(1);
-    let cases: Vec<_> = (0..600).map(|number| maker.case(maker.edge_count() + number)).collect();
-    let right: Vec<_> = cases.iter().map(|case| many_text(&case.image, &case.log, Flaw::None)).collect();
-    let first = Flaw::WRONG_RUNS.iter().position(|(flaw, _)| *flaw == Flaw::ResumeLosesEntries);
-    let of_pausing = &Flaw::WRONG_RUNS[first.expect("it is one of them")..];
-    assert_eq!(of_pausing.len(), 50);
-    for (flaw, what) in of_pausing {
-        let apart = |(case, right): (&Case, &Vec<u8>)| many_text(&case.image, &case.log, *flaw) != *right;
-        assert!(cases.iter().zip(&right).any(apart), "{what}");
-    }
 }
 
 /// No rule: the points that the folders have to reach.

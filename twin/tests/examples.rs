@@ -9,8 +9,6 @@ use common::{events_of, worked_case, worked_lines, STATE_LINES};
 use twin::access::folder::AccessFolder;
 use twin::core::flaw::Flaw;
 use twin::core::limits::MAX_VMS;
-use twin::core::state::Standing;
-use twin::core::Core;
 use twin::image::read::read_image;
 use twin::memlog::folder::MemoryFolder;
 use twin::readable_text::parse::{access_folder_of, case_of, report_folder_of};
@@ -18,11 +16,10 @@ use twin::report::folder::ReportFolder;
 use twin::run::frames::Case;
 use twin::run::text::{run_text, Detail};
 
-const NAMES: [&str; 7] =
-    ["worked", "stopped-model", "extra-time", "thrown-away", "refused-image", "wheels", "red-flag"];
+const NAMES: [&str; 6] = ["worked", "stopped-model", "extra-time", "thrown-away", "refused-image", "wheels"];
 
 /// The examples that hold the whole states of their run too.
-const NAMES_WITH_STATES: [&str; 2] = ["thrown-away", "red-flag"];
+const NAMES_WITH_STATES: [&str; 1] = ["thrown-away"];
 
 fn file(example: &str, name: &str) -> Vec<u8> {
     let path = PathBuf::from(env!("CARGO_MANIFEST_DIR")).join("../examples").join(example).join(name);
@@ -42,7 +39,7 @@ fn the_text_of_each_example_makes_its_files() {
     }
 }
 
-/// A8, D7, D10, D38 to D41, N3, N5, X2: extra time, a stopped VM, requests removed, a refused image, a paused VM.
+/// A8, D7, D10, N3, N5, X2: extra time, a stopped VM, requests removed, a refused image.
 #[test]
 fn the_files_of_each_example_make_its_expected_output() {
     for name in NAMES {
@@ -75,44 +72,6 @@ fn the_files_of_an_example_make_its_expected_states_with_the_counts_of_the_queue
             assert_eq!(counts_line, counts_line_for(queue_line), "{name}: {state:?}");
         }
     }
-}
-
-/// R1, D3, D6, D7, D38 to D41, N9: what the comments of the red flag say about the frozen model.
-#[test]
-fn the_model_goes_on_behind_the_red_flag_where_it_was() {
-    let case = files("red-flag");
-    let config = read_image(&case.image, Flaw::None).expect("accepted");
-    let (mut core, events) = (Core::fresh(config, Flaw::None), events_of(&case.log));
-    let answers: Vec<_> = events.iter().map(|event| (core.apply(*event), core.clone())).collect();
-    let (answer, after) = (|event: usize| answers[event - 1].0, |event: usize| &answers[event - 1].1.state);
-    assert_eq!([answer(9).refusal, answer(12).refusal], [4, 11]);
-    assert!((5..17).all(|event| after(event).vms[1].standing == Standing::Paused), "frozen");
-    assert_eq!((answer(7).running, after(7).vms[1].address), (Some(2), 0x2020));
-    assert_eq!((answer(10).running, after(9).queue.entries()), (Some(2), &[1, 2][..]));
-    assert_eq!([10, 14, 17].map(|event| after(event).queue.entries()), [[1]; 3]);
-    assert_eq!([13, 15].map(|event| answer(event).running), [None; 2], "its slot and the spare tick idle");
-    assert_eq!([2, 11, 16, 21].map(|event| answer(event).running), [Some(0); 4], "steering turns on");
-    assert_eq!((answer(18).running, answer(18).address), (Some(1), 0x2020));
-    let shown = after(18).vms[1].fields;
-    assert_eq!(
-        (shown[0], shown[9], shown[7]),
-        (10, 2, 0x5eed),
-        "older by the ticks under the flag, of which it ran none"
-    );
-    assert_eq!((answer(20).running, answer(20).address, after(20).queue.count), (Some(1), 0x2030, 0));
-}
-
-/// N16 to N18: the report of the same run, whose log stands there under both names.
-#[test]
-fn the_files_of_the_red_flag_make_its_expected_report() {
-    assert_eq!(file("red-flag", "log00.bin"), file("red-flag", "events.bin"));
-    let text = String::from_utf8(file("red-flag", "run.txt")).expect("a text");
-    let folder = PathBuf::from(env!("CARGO_MANIFEST_DIR")).join("../examples/red-flag");
-    assert_eq!(report_folder_of(&text), Ok(ReportFolder::read(&folder)));
-    let report = ReportFolder::read(&folder).report(Flaw::None);
-    let expected = "0 4 0 0\n1 2 1 1\n2 3 1 0\nidle 2\nticks 13\n";
-    assert_eq!(String::from_utf8(report).expect("ascii"), expected);
-    assert_eq!(file("red-flag", "expected-report"), expected.as_bytes());
 }
 
 /// X1, X2: the files of the worked example.

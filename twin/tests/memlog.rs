@@ -312,7 +312,7 @@ fn the_random_folders_alone_reach_every_point_of_the_windows() {
 fn the_random_cases_alone_reach_the_points_of_the_copies() {
     let maker = CaseMaker::new(1);
     let mut coverage = Coverage::default();
-    for number in maker.edge_count()..maker.edge_count() + 9_000 {
+    for number in maker.edge_count()..maker.edge_count() + 6_000 {
         coverage.observe(&maker.case(number));
     }
     let mut points = coverage.points();

@@ -2,7 +2,7 @@
 
 mod common;
 
-use common::{call, core_of, pause, resume, tick, with_queue, worked_case, write, STATE_LINES};
+use common::{call, core_of, tick, with_queue, worked_case, write, STATE_LINES};
 use twin::core::event::Event;
 use twin::core::flaw::Flaw;
 use twin::edges::reports::edge_reports;
@@ -48,13 +48,12 @@ fn only_the_address_is_hexadecimal() {
     );
 }
 
-/// T3, N9: the numbers of the standings, from none to paused.
+/// T3, N9: the numbers of the standings, from none to in error.
 #[test]
 fn each_standing_has_its_number() {
     let events = [Event::Start, tick(0), call(3, 0, 0), tick(0), tick(0), Event::Stop { vm: 1 }];
     let more = [Event::Restart { vm: 0 }, tick(0), tick(0), Event::Fault { code: 3, data: 0 }];
-    let last = [Event::Restart { vm: 1 }, pause(1), tick(0), resume(1)];
-    let lines = lines(&[&events[..], &more, &last].concat(), Detail::States);
+    let lines = lines(&[&events[..], &more].concat(), Detail::States);
     let standing =
         |event: usize, vm: usize| lines[STATE_LINES * event + 5 + vm].split(' ').nth(2).expect("a number");
     assert_eq!([standing(0, 2), standing(0, 7)], ["0", "0"], "never started");
@@ -62,7 +61,6 @@ fn each_standing_has_its_number() {
     assert_eq!([standing(5, 1), standing(9, 1)], ["2", "2"], "stopped");
     assert_eq!([standing(2, 0), standing(5, 0)], ["3", "3"], "shut down");
     assert_eq!(standing(9, 0), "4", "in error");
-    assert_eq!([10, 11, 12, 13].map(|event| standing(event, 1)), ["1", "5", "5", "1"], "paused and resumed");
 }
 
 /// T10, N9: the notice, the queue and its counts in whole states, in decimal.

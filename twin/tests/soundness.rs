@@ -3,7 +3,7 @@
 
 mod common;
 
-use common::{core_of, core_with, counted, every_kind, pause, resume, tick, worked_config};
+use common::{core_of, core_with, counted, every_kind, tick, worked_config};
 use twin::core::config::Config;
 use twin::core::event::{Answer, Event};
 use twin::core::flaw::Flaw;
@@ -192,12 +192,10 @@ fn entries_that_the_counts_do_not_follow_are_not_sound() {
 /// W14, R5, D2, D5, D18: what may be before the first tick and what the first tick makes of it.
 #[test]
 fn states_that_look_odd_and_are_sound() {
-    let changes: [fn(&mut Core); 5] = [
+    let changes: [fn(&mut Core); 3] = [
         |core| core.state.left = 999,
         |core| core.state.slot = 77,
         |core| core.state.vms[1].standing = Standing::Stopped,
-        |core| core.state.vms[0].standing = Standing::Paused,
-        |core| core.state.vms[1].standing = Standing::Paused,
     ];
     for change in changes {
         let mut core = fresh();
@@ -212,47 +210,6 @@ fn states_that_look_odd_and_are_sound() {
     assert_eq!(core.apply(Event::Stop { vm: 1 }).refusal, 4);
     assert_eq!(core.apply(Event::Restart { vm: 1 }).refusal, 0);
     assert_eq!(core.state.vms[1], Vm::ready_at(0x2000));
-}
-
-/// W4, W10: an entry of a paused VM and a paused VM that runs are sound; of any other standing they are not.
-#[test]
-fn only_a_vm_that_is_ready_or_paused_may_be_queued_or_run() {
-    let standings = [
-        (Standing::None, false),
-        (Standing::Ready, true),
-        (Standing::Stopped, false),
-        (Standing::ShutDown, false),
-        (Standing::InError, false),
-        (Standing::Paused, true),
-    ];
-    for (standing, sound) in standings {
-        // VM 0 runs and has no entry; VM 1 has the only one.
-        for vm in [0, 1] {
-            let mut core = started();
-            core.state.vms[vm].standing = standing;
-            assert_eq!(core.sound(), sound, "VM {vm}: {standing:?}");
-            if !sound {
-                assert_refused(core, &format!("VM {vm}: {standing:?}"));
-            }
-        }
-    }
-    let mut past = started();
-    past.state.vms[2].standing = Standing::Paused;
-    assert_refused(past, "a record past the count is paused");
-}
-
-/// W7, W14, R1, D1: a paused VM before Start is sound, and nothing but a Start is done; it makes the VM ready.
-#[test]
-fn a_paused_vm_before_start_waits_for_start() {
-    let mut core = fresh();
-    core.state.vms[0] = Vm { standing: Standing::Paused, address: 7, age: 9, ..Vm::default() };
-    assert!(core.sound());
-    for event in every_kind().into_iter().filter(|event| *event != Event::Start) {
-        assert_eq!(core.apply(event), Answer { refusal: 2, ..Answer::default() }, "{event:?}");
-    }
-    assert_eq!(core.apply(Event::Start).refusal, 0);
-    assert_eq!(core.state.vms[0], Vm::ready_at(0x1000));
-    assert_eq!([core.apply(resume(0)).refusal, core.apply(pause(0)).refusal], [11, 0]);
 }
 
 /// W14: age, ticks run, address and fields of the configuration's VMs may be anything, at any time.

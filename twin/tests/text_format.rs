@@ -89,17 +89,6 @@ fn a_copy_is_one_line() {
     assert_eq!(case_of(&text_of(&full)), Ok(full));
 }
 
-/// E15, E16: a Pause and a Resume as lines, both ways.
-#[test]
-fn a_pause_and_a_resume_are_one_line_each() {
-    let case = Case { image: Vec::new(), log: vec![0x1b, 1, 0x1c, 255] };
-    assert_eq!(text_of(&case), "\nlog\npause 1\nresume 255\n");
-    assert_eq!(case_of("log\npause 0x1 # the model\nresume 255"), Ok(case));
-    let cut = Case { image: Vec::new(), log: vec![0x1b, 0, 0x1b] };
-    assert_eq!(text_of(&cut), "\nlog\npause 0\nraw 1b\n");
-    assert_eq!(case_of(&text_of(&cut)), Ok(cut));
-}
-
 /// No rule: the readable text keeps every byte.
 #[test]
 fn any_bytes_come_back() {
@@ -154,14 +143,6 @@ fn errors_name_the_line_and_the_matter() {
         ("log\ncopy count 1 next 0 extent 1 2 4294967296", 2, "after 'extent' does not fit in 32 bits"),
         ("log\ncopy count 1 next 0 1 2 3", 2, "'1' is not known here; expected 'extent SOURCE DESTINATION"),
         (TOO_MANY_EXTENTS, 2, "'extent' is not known here; expected no more extents than 8"),
-        ("log\npause", 2, "the number after 'pause' is missing"),
-        ("log\nresume 256", 2, "256 after 'resume' does not fit in 8 bits"),
-        ("log\npause vm 0", 2, "'vm' after 'pause' is not a number"),
-        (
-            "log\nhalt 0",
-            2,
-            "expected start, tick, stop, shutdown, restart, extra, pause, resume, call, write",
-        ),
         ("raw 1", 1, "'1' is not a byte of two hexadecimal digits"),
         ("raw +1", 1, "'+1' is not a byte of two hexadecimal digits"),
     ];

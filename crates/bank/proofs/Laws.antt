@@ -1,13 +1,13 @@
 -- One record of the bank changed, the others as they were.
-use Rattle.std.proofs.Common.{◌≡◌, ℕ, zero, suc, ◌+◌, ◌*◌, ◌%◌, ◌^◌, ◌<◌, ◌≤◌, ◌⊎◌, List, [], ◌∷◌, length, get_or, set, sym, refl, ap, ◌∙◌, inl, inr, arith, length-set, get_or-set_other, get_or-set_same, ext_get_or, le-ltb, lt-ltb}
-use lib.ListN.{get_or-eq_default, get_or-map}
+use Rattle.std.proofs.Common.{◌≡◌, ℕ, zero, suc, ◌+◌, ◌*◌, ◌%◌, ◌^◌, ◌<◌, ◌≤◌, false, eqb, ◌⊎◌, List, [], ◌∷◌, length, get_or, set, sym, refl, ap, ◌∙◌, inl, inr, arith, length-set, get_or-set_other, get_or-set_same, ext_get_or, le-ltb, lt-ltb}
+use lib.ListN.{get_or-eq_default}
 use lib.Seq.{set_out}
 use native.Mathlib.Decide.{dec_lt, ℕ_discrete}
 use Rattle.bank.specs.Bank.{record_at, stores, vms_of, words_of}
-use Rattle.guest.specs.Record.{fresh, older, saved_at}
+use Rattle.guest.specs.Record.{fresh, is_ready, older, saved_at}
 use Rattle.guest.specs.declared.Vm.{Vm}
 use Rattle.vms.proofs.Laws.{each_at, each-length, each_more}
-use Rattle.vms.specs.Records.{each, standings_of}
+use Rattle.vms.specs.Records.{each}
 use Rattle.vms.specs.Tick.{saving}
 
 pub eight : (standings words : List ℕ) → length (vms_of standings words) ≡ 8
@@ -116,20 +116,12 @@ address_in standings words i h = rw (vm_in standings words i h)
 pub address_past : (standings words : List ℕ) (i : ℕ) → 8 ≤ i → 0 ≡ (get_or (vms_of standings words) i fresh).address
 address_past standings words i h = let p : length (vms_of standings words) ≤ i = omega (arith, eight standings words) in rw (get_or-eq_default (vms_of standings words) fresh p)
 
-pub standing_in : (standings words : List ℕ) (i : ℕ) → i < 8 → get_or standings i 0 ≡ (get_or (vms_of standings words) i fresh).standing
+pub ready_in : (standings words : List ℕ) (i : ℕ) → i < 8 → eqb (get_or standings i 0) 1 ≡ is_ready (get_or (vms_of standings words) i fresh)
 unfolding record_at
-standing_in standings words i h = rw (vm_in standings words i h)
+ready_in standings words i h = rw (vm_in standings words i h)
 
-pub standing_past : (standings words : List ℕ) (i : ℕ) → 8 ≤ i → 0 ≡ (get_or (vms_of standings words) i fresh).standing
-standing_past standings words i h = let p : length (vms_of standings words) ≤ i = omega (arith, eight standings words) in rw (get_or-eq_default (vms_of standings words) fresh p)
-
--- the standings of the records are those of the bank
-pub standings_of : (standings words : List ℕ) → length standings ≡ 8 → standings ≡ standings_of (vms_of standings words)
-unfolding vms_of record_at
-standings_of standings words h = ext_get_or 0 standings (standings_of (vms_of standings words)) h at_each
-  where
-    at_each : (k : ℕ) → k < length standings → get_or standings k 0 ≡ get_or (standings_of (vms_of standings words)) k 0
-    at_each k l = standing_in standings words k (omega arith) ∙ sym (get_or-map (λ (v : Vm). v.standing) (vms_of standings words) k fresh)
+pub ready_past : (standings words : List ℕ) (i : ℕ) → 8 ≤ i → false ≡ is_ready (get_or (vms_of standings words) i fresh)
+ready_past standings words i h = let p : length (vms_of standings words) ≤ i = omega (arith, eight standings words) in rw (get_or-eq_default (vms_of standings words) fresh p)
 
 module _ (standings words : List ℕ) (i x : ℕ) (low : i < 8) (wide : length words ≡ 104) where
   save_kept : (j : ℕ) → (j ≡ i * 13 → ⊥) → get_or (set words (i * 13) x) j 0 ≡ get_or words j 0

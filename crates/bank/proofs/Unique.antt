@@ -13,12 +13,12 @@ use Rattle.bank.proofs.gather.Kinds as gather-kinds
 use Rattle.bank.proofs.gather.Reads as gather-reads
 use Rattle.bank.proofs.put_vm.Kinds as put-vm-kinds
 use Rattle.bank.proofs.put_vm.Reads as put-vm-reads
+use Rattle.bank.proofs.ready_at.Kinds as ready-at-kinds
+use Rattle.bank.proofs.ready_at.Reads as ready-at-reads
 use Rattle.bank.proofs.save.Kinds as save-kinds
 use Rattle.bank.proofs.save.Reads as save-reads
 use Rattle.bank.proofs.spread.Kinds as spread-kinds
 use Rattle.bank.proofs.spread.Reads as spread-reads
-use Rattle.bank.proofs.standing_at.Kinds as standing-at-kinds
-use Rattle.bank.proofs.standing_at.Reads as standing-at-reads
 use Rattle.bank.proofs.start_all.Kinds as start-all-kinds
 use Rattle.bank.proofs.start_all.Reads as start-all-reads
 use Rattle.bank.proofs.vm_at.Kinds as vm-at-kinds
@@ -31,8 +31,8 @@ bank_vm_at_one κs a x y s t p q = p ∙ sym q
 pub bank_address_at_one : OneAnswer 2 address-at-kinds.ps address-at-kinds.r address-at-reads.Post
 bank_address_at_one κs a x y s t p q = p ∙ sym q
 
-pub bank_standing_at_one : OneAnswer 2 standing-at-kinds.ps standing-at-kinds.r standing-at-reads.Post
-bank_standing_at_one κs a x y s t p q = p ∙ sym q
+pub bank_ready_at_one : OneAnswer 2 ready-at-kinds.ps ready-at-kinds.r ready-at-reads.Post
+bank_ready_at_one κs a x y s t p q = p ∙ sym q
 
 pub bank_gather_one : OneAnswer 2 gather-kinds.ps gather-kinds.r gather-reads.Post
 bank_gather_one κs a x y s t p q = p ∙ sym q

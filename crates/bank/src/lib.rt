@@ -2,7 +2,7 @@
 #![tactic(auto)]
 ghost use Rattle.std.specs.Prelude.{◌≡◌, length, get_or, slice_index_or, slice_set};
 ghost use Rattle.bank.specs.Bank.{vms_of};
-ghost use Rattle.guest.specs.Record.{fresh};
+ghost use Rattle.guest.specs.Record.{fresh, is_ready};
 ghost use Rattle.vms.specs.Records.{aged_all, started_all};
 ghost use Rattle.vms.specs.Tick.{saving};
 
@@ -91,16 +91,16 @@ pub fn address_at(standings: &[u8], words: &[u32], i: u8) -> u32
     0
 }
 
-// The standing of record i (T3); past the last there is none.
-pub fn standing_at(standings: &[u8], words: &[u32], i: u8) -> u8
+// Whether record i is ready (T3); past the last none is.
+pub fn ready_at(standings: &[u8], words: &[u32], i: u8) -> bool
     requires { (length standings.now ≡ 8) × (length words.now ≡ 104) }
-    ensures { result ≡ (get_or (vms_of standings.now words.now) i fresh).standing }
+    ensures { result ≡ is_ready (slice_index_or (vms_of standings.now words.now) i fresh) }
 {
     if i < 8 {
         let j = i as usize;
-        return standings[j];
+        return standings[j] == Vm::READY;
     }
-    Vm::NONE
+    false
 }
 
 // The address where record i goes on (D3); past the last nothing changes.

@@ -7,7 +7,7 @@ use Rattle.change.specs.declared.Answer.{Answer}
 use Rattle.change.specs.declared.Change.{Change}
 use Rattle.change.specs.declared.Notice.{Notice}
 use Rattle.guest.specs.Deliver.{back_from, deliver, enter, quiet}
-use Rattle.guest.specs.Record.{down_standing, with_standing, error_standing, pend, started_at}
+use Rattle.guest.specs.Record.{down_standing, ended_as, error_standing, pend, started_at}
 use Rattle.guest.specs.declared.Delivery.{Delivery}
 use Rattle.guest.specs.declared.Vm.{Vm}
 use Rattle.queue.specs.Entries.{pushed, removal}
@@ -39,7 +39,7 @@ renewed_from running queue v vm delivered =
 -- D14, D15, A8: the VM ends with a standing, its entries leave the queue, and where it was running nobody runs
 abbrev pub ending_from : ℕ → Queue → ℕ → Vm → ℕ → Notice → Change
 ending_from running queue v vm standing notice =
-    record { place = v; vm = with_standing standing vm; running = running_without running v; queue = queue_without queue v; delivered = nobody; notice = notice; result = 0; removed = removed_of queue v }
+    record { place = v; vm = ended_as standing vm; running = running_without running v; queue = queue_without queue v; delivered = nobody; notice = notice; result = 0; removed = removed_of queue v }
 
 -- D23, A5: the VM ends in error; a Call that does so is done as well (R6)
 abbrev pub failing_from : ℕ → Queue → ℕ → Vm → ℕ → ℕ → Change

@@ -67,7 +67,7 @@ impl Change {
     pub fn ending(v: u8, vm: Vm, standing: u8, running: u8, queue: Queue, told: Notice) -> Change
         ensures { result ≡ ending_from running queue v vm standing told }
     {
-        let ended = vm.with_standing(standing);
+        let ended = vm.ended(standing);
         let gone = queue.without(v);
         let rest = gone.queue;
         Change {

@@ -3,7 +3,6 @@ ghost use Rattle.std.specs.Prelude.{eqb, leb, ltb, not, ◌≡◌};
 ghost use Rattle.basis.specs.Bounds.{within};
 ghost use Rattle.basis.specs.Choice.{pick};
 ghost use Rattle.basis.specs.Nobody.{nobody};
-ghost use Rattle.guest.specs.Record.{stands_alive, stands_paused, stands_ready};
 ghost use Rattle.guest.specs.Write.{is_field};
 
 use guest::Vm;
@@ -23,9 +22,9 @@ pub fn of_tick(started: u8) -> u8
     if started == Clock::YES { 0 } else { 2 }
 }
 
-// Stop and Shutdown: the VM has to be ready or paused.
-pub fn of_alive(started: u8, count: u8, v: u8, standing: u8) -> u8
-    ensures { result ≡ pick (not (eqb started 1)) 2 (pick (not (ltb v count)) 3 (pick (not (stands_alive standing)) 4 0)) }
+// Stop and Shutdown.
+pub fn of_ready(started: u8, count: u8, v: u8, ready: bool) -> u8
+    ensures { result ≡ pick (not (eqb started 1)) 2 (pick (not (ltb v count)) 3 (pick (not ready) 4 0)) }
 {
     if started != Clock::YES {
         return 2;
@@ -33,42 +32,10 @@ pub fn of_alive(started: u8, count: u8, v: u8, standing: u8) -> u8
     if count <= v {
         return 3;
     }
-    if Vm::alive(standing) {
+    if ready {
         return 0;
     }
     4
-}
-
-// Pause.
-pub fn of_ready(started: u8, count: u8, v: u8, standing: u8) -> u8
-    ensures { result ≡ pick (not (eqb started 1)) 2 (pick (not (ltb v count)) 3 (pick (not (stands_ready standing)) 4 0)) }
-{
-    if started != Clock::YES {
-        return 2;
-    }
-    if count <= v {
-        return 3;
-    }
-    if standing == Vm::READY {
-        return 0;
-    }
-    4
-}
-
-// Resume.
-pub fn of_paused(started: u8, count: u8, v: u8, standing: u8) -> u8
-    ensures { result ≡ pick (not (eqb started 1)) 2 (pick (not (ltb v count)) 3 (pick (not (stands_paused standing)) 11 0)) }
-{
-    if started != Clock::YES {
-        return 2;
-    }
-    if count <= v {
-        return 3;
-    }
-    if standing == Vm::PAUSED {
-        return 0;
-    }
-    11
 }
 
 // Restart, whatever the standing (R5).
@@ -85,8 +52,8 @@ pub fn of_any(started: u8, count: u8, v: u8) -> u8
 }
 
 // Extra; a queue of size 0 is always full (R4).
-pub fn of_request(started: u8, count: u8, v: u8, standing: u8, room: u8, queued: u8) -> u8
-    ensures { result ≡ pick (not (eqb started 1)) 2 (pick (not (ltb v count)) 3 (pick (not (stands_ready standing)) 4 (pick (leb room queued) 6 0))) }
+pub fn of_request(started: u8, count: u8, v: u8, ready: bool, room: u8, queued: u8) -> u8
+    ensures { result ≡ pick (not (eqb started 1)) 2 (pick (not (ltb v count)) 3 (pick (not ready) 4 (pick (leb room queued) 6 0))) }
 {
     if started != Clock::YES {
         return 2;
@@ -94,7 +61,7 @@ pub fn of_request(started: u8, count: u8, v: u8, standing: u8, room: u8, queued:
     if v >= count {
         return 3;
     }
-    if standing == Vm::READY {
+    if ready {
         if room <= queued {
             return 6;
         }

@@ -5,14 +5,13 @@ ghost use Rattle.basis.specs.Choice.{both, either};
 ghost use Rattle.basis.specs.Count.{every};
 ghost use Rattle.basis.specs.Nobody.{nobody};
 ghost use Rattle.checks.specs.Sound.{sound_from};
-ghost use Rattle.checks.specs.Standings.{alive_in, none_in};
+ghost use Rattle.checks.specs.Standings.{none_in, ready_in};
 ghost use Rattle.config.specs.Sizes.{config_of, is_spare};
 ghost use Rattle.guest.specs.Record.{last_standing};
 ghost use Rattle.queue.specs.Entries.{padded_of};
 ghost use Rattle.regions.specs.Rules.{none};
 ghost use Rattle.table.specs.Position.{has_ticked, is_started};
 
-use basis::places;
 use basis::tests::{both, fault};
 use config::Config;
 use guest::Vm;
@@ -42,7 +41,7 @@ pub fn parts_sound(
     let duration = table::duration_at(clock.slot, durations);
     let placed = clock_sound(clock, slots, duration);
     let owner = table::owner_at(clock.slot, owners);
-    let runs = runner_sound(running, owner, is_alive(&standings, running));
+    let runs = runner_sound(running, owner, is_ready(&standings, running));
     let known = numbers_known(clock, &standings);
     let counted = queue.counted();
     if all(rest, queued, begun, placed, runs, known, counted) {
@@ -52,16 +51,21 @@ pub fn parts_sound(
     }
 }
 
-// Whether VM v is ready or paused; there is none past the last.
-fn is_alive(standings: &[u8], v: u8) -> bool
-    ensures { result ≡ alive_in standings.now v }
+// Whether VM v is ready; there is none past the last.
+fn is_ready(standings: &[u8], v: u8) -> bool
+    ensures { result ≡ ready_in standings.now v }
 {
-    Vm::alive(places::byte_at(standings, v as usize))
+    let i = v as usize;
+    if i < standings.len() {
+        standings[i] == Vm::READY
+    } else {
+        false
+    }
 }
 
 // W3, W4, W5; no queue is longer than its 16 places.
 fn queue_sound(q: Queue, room: u8, standings: &[u8]) -> bool
-    ensures { result ≡ both (leb q.len 16) (both (leb q.len room) (both (every (λ k. alive_in standings.now (get_or q.items k 0)) q.len) (padded_of q))) }
+    ensures { result ≡ both (leb q.len 16) (both (leb q.len room) (both (every (λ k. ready_in standings.now (get_or q.items k 0)) q.len) (padded_of q))) }
 {
     if Queue::PLACES < q.len {
         return false;
@@ -70,19 +74,19 @@ fn queue_sound(q: Queue, room: u8, standings: &[u8]) -> bool
         return false;
     }
     let items = q.items;
-    both(entries_alive(&items, q.len, standings), q.padded())
+    both(entries_ready(&items, q.len, standings), q.padded())
 }
 
 // W4.
-fn entries_alive(items: &[u8; 16], len: u8, standings: &[u8]) -> bool
+fn entries_ready(items: &[u8; 16], len: u8, standings: &[u8]) -> bool
     requires { len ≤ 16 }
-    ensures { result ≡ every (λ k. alive_in standings.now (get_or items.now k 0)) len }
+    ensures { result ≡ every (λ k. ready_in standings.now (get_or items.now k 0)) len }
 {
     let n = len as usize;
     let mut ok = true;
     let mut k: usize = 0;
     while k < n {
-        ok = both(is_alive(standings, items[k]), ok);
+        ok = both(is_ready(standings, items[k]), ok);
         k = k + 1;
     }
     ok
@@ -134,13 +138,13 @@ fn clock_sound(k: Clock, slots: u8, duration: u16) -> bool
 }
 
 // W10, W11.
-fn runner_sound(running: u8, owner: u8, alive: bool) -> bool
-    ensures { result ≡ both (either (eqb running nobody) alive) (either (eqb running nobody) (either (eqb owner running) (is_spare owner))) }
+fn runner_sound(running: u8, owner: u8, ready: bool) -> bool
+    ensures { result ≡ both (either (eqb running nobody) ready) (either (eqb running nobody) (either (eqb owner running) (is_spare owner))) }
 {
     if running == basis::NOBODY {
         return true;
     }
-    if alive {
+    if ready {
         if owner == running {
             return true;
         }

@@ -7,7 +7,6 @@ use Rattle.config.specs.Ranges.{Sized}
 use Rattle.config.specs.Sizes.{legal}
 use Rattle.config.specs.declared.Config.{Config}
 use Rattle.rig_core.proofs.Inner.{step_sound}
-use Rattle.rig_core.proofs.Inner.{not_1}
 use Rattle.rig_core.specs.Events.{inner_of, step_of}
 use Rattle.rig_core.specs.Refusals.{refusal_of, row_of}
 use Rattle.rig_core.specs.Sound.{Sound, sound}
@@ -18,7 +17,7 @@ use Rattle.core_laws.proofs.Facts.{illegal_unsound, sound_of}
 use Rattle.core_laws.proofs.Fresh.{fresh_facts}
 use Rattle.core_laws.proofs.Kept.{shaped_fresh, shaped_step, step_config}
 use Rattle.core_laws.proofs.Refused.{step_number}
-use Rattle.core_laws.proofs.View.{refusal_row, refusal_unsound}
+use Rattle.core_laws.proofs.View.{refusal_row, refusal_unsound, row_not_one}
 use Rattle.core_laws.specs.Run.{run}
 use Rattle.event.specs.declared.Event.{Event}
 
@@ -79,7 +78,7 @@ always_row g h z es e = refusal_row (run (fresh_core g) es) e (always_sound g h 
 -- R1: row 1 never applies in a run
 pub never_refused_1 : (g : Config) → legal g ≡ true → Sized g → (es : List Event) (e : Event) → (step_of (run (fresh_core g) es) e).answer.refusal ≡ 1 → ⊥
 never_refused_1 g h z es e q =
-    not_1 (run (fresh_core g) es) e (sym (always_row g h z es e) ∙ sym (step_number (run (fresh_core g) es) e) ∙ q)
+    row_not_one (run (fresh_core g) es) e (sym (always_row g h z es e) ∙ sym (step_number (run (fresh_core g) es) e) ∙ q)
 
 -- T7: with a configuration that is not legal, the state never changes and every event is refused with 1
 pub always_refused_1 : (g : Config) → legal g ≡ false → (es : List Event) (e : Event) → (step_of (run (fresh_core g) es) e).answer.refusal ≡ 1

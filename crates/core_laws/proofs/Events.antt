@@ -6,11 +6,11 @@ use lib.ListN.{get_or, length, length-append, set}
 use lib.Seq.{get_or-set_other, get_or-set_same}
 use mathlib.Core.Bool.{Bool, false, true}
 use mathlib.Core.List.{List, [], ◌++◌, ◌∷◌}
-use mathlib.Core.Logic.{inl, inr, ◌⊎◌, ⊎_elim}
+use mathlib.Core.Logic.{inl, inr, ◌⊎◌}
 use mathlib.Core.Path.{refl, subst, sym, ◌∙◌, ◌≡◌}
 use native.Mathlib.Decide.{ℕ_discrete}
 use native.Mathlib.Omega.{arith}
-use Rattle.basis.proofs.Laws.{either_is, false_true, pick_case}
+use Rattle.basis.proofs.Laws.{false_true, pick_case}
 use Rattle.basis.specs.Choice.{pick}
 use Rattle.basis.specs.Nobody.{nobody}
 use Rattle.change.specs.Changes.{queue_without, running_without}
@@ -20,29 +20,28 @@ use Rattle.rig_core.specs.Changes.{changed_by, replaced}
 use Rattle.rig_core.specs.Events.{called, done, failure_of, start_core, step_of, tick_clock, tick_core, tick_owner, tick_queue, tick_turn}
 use Rattle.rig_core.specs.Refusals.{row_of}
 use Rattle.rig_core.specs.Sound.{Sound, sound}
-use Rattle.rig_core.specs.State.{Shaped, alive_at, full, owner_now, ready_at, vm_at}
+use Rattle.rig_core.specs.State.{Shaped, full, owner_now, ready_at, vm_at}
 use Rattle.rig_core.specs.declared.Core.{Core}
-use Rattle.core_laws.proofs.Facts.{count_most, entries-alive, entries-len, ready_alive, ready-below, room_most, running-below, sound_is, sound_of}
+use Rattle.core_laws.proofs.Facts.{count_most, entries-len, entries-ready, ready-below, room_most, running-below, sound_is, sound_of}
 use Rattle.core_laws.proofs.Refused.{refused_core}
-use Rattle.core_laws.proofs.View.{call-case, copy_case, row_call, row_copy, row_extra, row_fault, row_pause, row_restart, row_resume, row_shutdown, row_start, row_stop, row_tick, row_write, step_case}
+use Rattle.core_laws.proofs.View.{call-case, copy_case, row_call, row_copy, row_extra, row_fault, row_restart, row_shutdown, row_start, row_stop, row_tick, row_write, step_case}
 use Rattle.core_laws.specs.Run.{run}
-use Rattle.event.specs.declared.Event.TheVariants.{Call, Copy, Extra, Fault, Pause, Restart, Resume, Shutdown, Start, Stop, Tick, Write}
+use Rattle.event.specs.declared.Event.TheVariants.{Call, Copy, Extra, Fault, Restart, Shutdown, Start, Stop, Tick, Write}
 use Rattle.event.specs.declared.Event.{Event}
 use Rattle.guest.proofs.Facts.{deliver_standing, pend_standing, write_standing}
 use Rattle.guest.specs.Deliver.{back_from, deliver}
-use Rattle.guest.specs.Record.{fresh, is_alive, is_ready, last_standing, pend, saved_at, stands_paused, started_at, with_standing}
+use Rattle.guest.specs.Record.{ended_as, fresh, is_ready, last_standing, pend, saved_at, started_at}
 use Rattle.guest.specs.Write.{write}
 use Rattle.guest.specs.declared.Vm.{Vm}
 use Rattle.queue.proofs.Counted.{counted-cleared, counted-lowered, counted-raised}
 use Rattle.queue.proofs.Lists.{pad_at, past_at}
-use Rattle.queue.proofs.Meaning.{all_append, all-at, all_map, all_others, all_others_not, entries_of_lem, others_length, pushed_done}
-use Rattle.queue.proofs.Middle.{all_but, any-first, none_first, without-few}
-use Rattle.queue.specs.Entries.{All, Counted, any_of, cleared, entries, first_of, holding, lowered, others, pushed, raised, taken, without_first}
+use Rattle.queue.proofs.Meaning.{all_append, all-at, all_map, all_others, all_others_not, all_rest, entries_of_lem, others_length, pushed_done, rest_length}
+use Rattle.queue.specs.Entries.{All, Counted, cleared, entries, front_of, holding, lowered, others, popped, pushed, raised, rest}
 use Rattle.queue.specs.declared.Queue.{Queue}
 use Rattle.table.proofs.Moves.{OnTable, next_on_table, next_started, next_ticked}
 use Rattle.table.specs.Position.{has_ticked, is_started}
 use Rattle.vms.proofs.Laws.{each_at}
-use Rattle.vms.proofs.Records.{alive_stays, turn-other, turn-standing, turn-who}
+use Rattle.vms.proofs.Records.{ready_stays, turn-other, turn-standing, turn-who}
 use Rattle.vms.specs.Records.{started_all}
 use Rattle.vms.specs.Tick.{runner_of}
 
@@ -51,23 +50,23 @@ use Rattle.vms.specs.Tick.{runner_of}
 -- W3, W4, W5, W13
 pub record Queued (room : ℕ) (l : List Vm) (q : Queue) : Type 0 where
   pub few : q.len ≤ room
-  pub alive : (k : ℕ) → k < q.len → is_alive (get_or l (get_or q.items k 0) fresh) ≡ true
+  pub ready : (k : ℕ) → k < q.len → is_ready (get_or l (get_or q.items k 0) fresh) ≡ true
   pub padded : (k : ℕ) → q.len ≤ k → k < 16 → get_or q.items k 0 ≡ 0
   pub counted : Counted q.counts (entries q)
 
 pub queued_now : (c : Core) → Sound c → Queued c.config.room c.vms c.queue
-queued_now c s = record { few = s.few; alive = s.queued; padded = s.padded; counted = s.counted }
+queued_now c s = record { few = s.few; ready = s.queued; padded = s.padded; counted = s.counted }
 
--- other records, with the entries' VMs ready or paused in them
-pub queued_in : (room : ℕ) (l m : List Vm) (q : Queue) → ((k : ℕ) → is_alive (get_or l k fresh) ≡ true → is_alive (get_or m k fresh) ≡ true) → Queued room l q → Queued room m q
-queued_in room l m q h w = record { few = w.few; alive = λ k i. h (get_or q.items k 0) (w.alive k i); padded = w.padded; counted = w.counted }
+-- other records, with the entries ready in them
+pub queued_in : (room : ℕ) (l m : List Vm) (q : Queue) → ((k : ℕ) → is_ready (get_or l k fresh) ≡ true → is_ready (get_or m k fresh) ≡ true) → Queued room l q → Queued room m q
+queued_in room l m q h w = record { few = w.few; ready = λ k i. h (get_or q.items k 0) (w.ready k i); padded = w.padded; counted = w.counted }
 
 -- the queue of a list, with its counts
-pub queued_list : (room : ℕ) (l : List Vm) (m counts : List ℕ) → length m ≤ room → All (λ x. is_alive (get_or l x fresh) ≡ true) m → Counted counts m → Queued room l (holding m counts)
+pub queued_list : (room : ℕ) (l : List Vm) (m counts : List ℕ) → length m ≤ room → All (λ x. is_ready (get_or l x fresh) ≡ true) m → Counted counts m → Queued room l (holding m counts)
 queued_list room l m counts h a n =
     record {
       few = h;
-      alive = λ k i. rw (pad_at m (16 - length m) k) (all-at (λ x. is_alive (get_or l x fresh) ≡ true) m a k i);
+      ready = λ k i. rw (pad_at m (16 - length m) k) (all-at (λ x. is_ready (get_or l x fresh) ≡ true) m a k i);
       padded = λ k i j. pad_at m (16 - length m) k ∙ past_at m k i;
       counted = rw (entries_of_lem m counts) n;
     }
@@ -85,50 +84,45 @@ module _ (c : Core) (p : Shaped c) (s : Sound c) where
       (all_map _ _
       (λ x h. rw (get_or-set_other c.vms v x vm fresh (eqb-false x v h.1)) h.0)
       (others v (entries c.queue))
-      (all_both (λ x. alive_at c x ≡ true) (λ x. eqb x v ≡ false) (others v (entries c.queue)) (all_others _ v (entries c.queue) (entries-alive c p s)) (all_others_not v (entries c.queue))))
+      (all_both (λ x. ready_at c x ≡ true) (λ x. eqb x v ≡ false) (others v (entries c.queue)) (all_others _ v (entries c.queue) (entries-ready c p s)) (all_others_not v (entries c.queue))))
       (counted-cleared c.queue.counts (entries c.queue) p.places.counts s.counted v)
 
   -- D20: one entry more
-  pub pushed-queued : (v : ℕ) → alive_at c v ≡ true → c.queue.len < c.config.room → Queued c.config.room c.vms (pushed v c.queue)
+  pub pushed-queued : (v : ℕ) → ready_at c v ≡ true → c.queue.len < c.config.room → Queued c.config.room c.vms (pushed v c.queue)
   pushed-queued v r h =
       let i : c.queue.len < 16 = omega (arith, room_most c s) in
       let e : length (entries c.queue ++ (v ∷ [])) ≡ c.queue.len + 1 = length-append (entries c.queue) (v ∷ []) ∙ omega (arith, entries-len c p s) in
       subst (λ (q : Queue). Queued c.config.room c.vms q) (sym (pushed_done v c.queue i))
-      (queued_list c.config.room c.vms (entries c.queue ++ (v ∷ [])) (raised v c.queue.counts) (omega arith) (all_append _ (entries c.queue) v (entries-alive c p s) r)
+      (queued_list c.config.room c.vms (entries c.queue ++ (v ∷ [])) (raised v c.queue.counts) (omega arith) (all_append _ (entries c.queue) v (entries-ready c p s) r)
       (counted-raised c.queue.counts (entries c.queue) p.places.counts s.counted v (omega (arith, entries-len c p s))))
 
-  -- D7: the oldest entry whose VM is ready leaves in a spare slot
-  taken_queued : Queued c.config.room c.vms (taken (ready_at c) c.queue)
-  unfolding taken
-  taken_queued =
-      pick_case (λ (q : Queue). Queued c.config.room c.vms q) (any_of (ready_at c) (entries c.queue)) _ _
-      (λ h. queued_list c.config.room c.vms (without_first (ready_at c) (entries c.queue)) (lowered (first_of (ready_at c) (entries c.queue)) c.queue.counts)
-      (omega (arith, without-few (ready_at c) (entries c.queue), entries-len c p s, s.few)) (all_but (ready_at c) _ (entries c.queue) (entries-alive c p s))
-      (counted-lowered c.queue.counts (entries c.queue) p.places.counts s.counted (ready_at c)))
-      (λ h. queued_now c s)
-
+  -- D7: the oldest entry leaves in a spare slot
   pub tick-queued : Queued c.config.room c.vms (tick_queue c)
-  unfolding tick_queue
-  tick-queued = pick_case (λ (q : Queue). Queued c.config.room c.vms q) (is_spare (tick_owner c)) _ _ (λ h. taken_queued) (λ h. queued_now c s)
+  unfolding tick_queue popped
+  tick-queued =
+      pick_case (λ (q : Queue). Queued c.config.room c.vms q) (is_spare (tick_owner c)) _ _
+      (λ h. queued_list c.config.room c.vms (rest (entries c.queue)) (lowered (front_of (entries c.queue)) c.queue.counts) (omega (arith, rest_length (entries c.queue), entries-len c p s, s.few)) (all_rest _ (entries c.queue) (entries-ready c p s))
+      (counted-lowered c.queue.counts (entries c.queue) p.places.counts s.counted))
+      (λ h. queued_now c s)
 
 -- ---- one record replaced
 
 -- a VM of the configuration has another record; who ran goes on or nobody does; the queue is sound over the new records
 pub replaced_sound : (c : Core) → length c.vms ≡ 8 → Sound c → is_started c.clock ≡ true → (v : ℕ) → v < c.config.count → (vm : Vm) → vm.standing ≤ last_standing
-    → (r : ℕ) → ((r ≡ nobody → ⊥) → (r ≡ c.running) × (is_alive (get_or (set c.vms v vm) r fresh) ≡ true))
+    → (r : ℕ) → ((r ≡ nobody → ⊥) → (r ≡ c.running) × (is_ready (get_or (set c.vms v vm) r fresh) ≡ true))
     → (q : Queue) → Queued c.config.room (set c.vms v vm) q → Sound (replaced c v vm r q)
 replaced_sound c n s on v l vm m r run q w =
     record {
       legal = s.legal;
       rest = λ k h i. get_or-set_other c.vms v k vm fresh (λ e. omega arith) ∙ s.rest k h i;
       few = w.few;
-      queued = w.alive;
+      queued = w.ready;
       padded = w.padded;
       first = still;
       unstarted = λ h. false_true (sym h ∙ on);
       slot = s.slot;
       left = s.left;
-      alive = λ h. (run h).1;
+      ready = λ h. (run h).1;
       named = λ h. subst (λ (x : ℕ). (owner_now c ≡ x) ⊎ (owner_now c ≡ nobody)) (sym (run h).0) (s.named (λ e. h ((run h).0 ∙ e)));
       flags = s.flags;
       standings = known;
@@ -149,7 +143,7 @@ replaced_sound c n s on v l vm m r run q w =
           | no e ↦ rw (get_or-set_other c.vms v k vm fresh e) (s.standings k h)
         ]
 
--- Stop, Fault, Call 3, a Call or a Copy that fails: the VM is neither ready nor paused, its entries leave, and it runs no more
+-- Stop, Fault, Call 3, a Call or a Copy that fails: the VM is no longer ready, its entries leave, and it runs no more
 pub ended_sound : (c : Core) → Shaped c → Sound c → is_started c.clock ≡ true → (v : ℕ) → v < c.config.count → (vm : Vm) → vm.standing ≤ last_standing
     → Sound (replaced c v vm (running_without c.running v) (queue_without c.queue v))
 unfolding running_without
@@ -158,27 +152,24 @@ ended_sound c p s on v l vm m =
     (queue_without c.queue v) (without-queued c p s v vm)
   where
     go : (b : Bool) → eqb c.running v ≡ b → (pick b nobody c.running ≡ nobody → ⊥)
-        → (pick b nobody c.running ≡ c.running) × (is_alive (get_or (set c.vms v vm) (pick b nobody c.running) fresh) ≡ true)
+        → (pick b nobody c.running ≡ c.running) × (is_ready (get_or (set c.vms v vm) (pick b nobody c.running) fresh) ≡ true)
     go true e h = absurd (h refl)
-    go false e h = (refl, rw (get_or-set_other c.vms v c.running vm fresh (eqb-false c.running v e)) (s.alive h))
+    go false e h = (refl, rw (get_or-set_other c.vms v c.running vm fresh (eqb-false c.running v e)) (s.ready h))
 
--- a VM that is ready or paused has a standing (W12)
-alive_most : (vm : Vm) → is_alive vm ≡ true → vm.standing ≤ last_standing
-alive_most vm a = ⊎_elim (λ h. omega (arith, eqb-true vm.standing 1 h)) (λ h. omega (arith, eqb-true vm.standing 5 h)) (either_is (is_ready vm) (stands_paused vm.standing) a)
-
--- Shutdown, Restart, Extra, Write, Pause, Resume, and a Call or a Copy that goes on: the VM is ready or paused after it, and who ran goes on
-pub renewed_sound : (c : Core) → length c.vms ≡ 8 → Sound c → is_started c.clock ≡ true → (v : ℕ) → v < c.config.count → (vm : Vm) → is_alive vm ≡ true
+-- Shutdown, Restart, Extra, Write, and a Call or a Copy that goes on: the VM is ready after it, and who ran goes on
+pub renewed_sound : (c : Core) → length c.vms ≡ 8 → Sound c → is_started c.clock ≡ true → (v : ℕ) → v < c.config.count → (vm : Vm) → is_ready vm ≡ true
     → (q : Queue) → Queued c.config.room (set c.vms v vm) q → Sound (replaced c v vm c.running q)
 renewed_sound c n s on v l vm r q w =
     let i : v < length c.vms = omega (arith, count_most c s) in
-    replaced_sound c n s on v l vm (alive_most vm r) c.running (λ h. (refl, alive_stays c.vms v vm i r c.running (s.alive h))) q w
+    let one = eqb-true vm.standing 1 r in
+    replaced_sound c n s on v l vm (omega arith) c.running (λ h. (refl, ready_stays c.vms v vm i r c.running (s.ready h))) q w
 
 -- the same with the queue over the records before
-renewed_over : (c : Core) → length c.vms ≡ 8 → Sound c → is_started c.clock ≡ true → (v : ℕ) → v < c.config.count → (vm : Vm) → is_alive vm ≡ true
+renewed_over : (c : Core) → length c.vms ≡ 8 → Sound c → is_started c.clock ≡ true → (v : ℕ) → v < c.config.count → (vm : Vm) → is_ready vm ≡ true
     → (q : Queue) → Queued c.config.room c.vms q → Sound (replaced c v vm c.running q)
 renewed_over c n s on v l vm r q w =
     let i : v < length c.vms = omega (arith, count_most c s) in
-    renewed_sound c n s on v l vm r q (queued_in c.config.room c.vms (set c.vms v vm) q (alive_stays c.vms v vm i r) w)
+    renewed_sound c n s on v l vm r q (queued_in c.config.room c.vms (set c.vms v vm) q (ready_stays c.vms v vm i r) w)
 
 -- ---- Start
 
@@ -197,7 +188,7 @@ start_sound c n s off =
       unstarted = λ h. false_true (sym h);
       slot = s.slot;
       left = s.left;
-      alive = λ h. absurd (h u.2);
+      ready = λ h. absurd (h u.2);
       named = λ h. absurd (h u.2);
       flags = (omega arith, s.flags.1);
       standings = known;
@@ -215,20 +206,18 @@ start_sound c n s off =
 
 -- ---- Tick
 
-first_holds : (p : ℕ → Bool) (l : List ℕ) → (first_of p l ≡ nobody → ⊥) → p (first_of p l) ≡ true
-first_holds p l h = go (any_of p l) refl
-  where
-    go : (b : Bool) → any_of p l ≡ b → p (first_of p l) ≡ true
-    go true e = any-first p l e
-    go false e = absurd (h (none_first p l e))
+front_of_lem : (p : ℕ → Type 0) (l : List ℕ) → All p l → (front_of l ≡ nobody → ⊥) → p (front_of l)
+unfolding front_of
+front_of_lem p [] a h = absurd (h refl)
+front_of_lem p (x ∷ l) a h = a.0
 
 -- D6, D7: whom a tick runs is ready, and the slot names it or is spare
-pub runner_facts : (c : Core) → Shaped c → Sound c → (owner : ℕ) → (runner_of owner (first_of (ready_at c) (entries c.queue)) c.vms ≡ nobody → ⊥)
-    → (ready_at c (runner_of owner (first_of (ready_at c) (entries c.queue)) c.vms) ≡ true) × ((owner ≡ runner_of owner (first_of (ready_at c) (entries c.queue)) c.vms) ⊎ (owner ≡ nobody))
+pub runner_facts : (c : Core) → Shaped c → Sound c → (owner : ℕ) → (runner_of owner (front_of (entries c.queue)) c.vms ≡ nobody → ⊥)
+    → (ready_at c (runner_of owner (front_of (entries c.queue)) c.vms) ≡ true) × ((owner ≡ runner_of owner (front_of (entries c.queue)) c.vms) ⊎ (owner ≡ nobody))
 unfolding runner_of
 runner_facts c p s owner =
     pick_case Q (is_spare owner) _ _
-    (λ h n. (first_holds (ready_at c) (entries c.queue) n, inr (eqb-true owner nobody h)))
+    (λ h n. (front_of_lem (λ x. ready_at c x ≡ true) (entries c.queue) (entries-ready c p s) n, inr (eqb-true owner nobody h)))
     (λ h. pick_case Q (is_ready (get_or c.vms owner fresh)) _ _ (λ r n. (r, inl refl)) (λ r n. absurd (n refl)))
   where
     Q : ℕ → Type 0
@@ -251,23 +240,23 @@ tick_started c = next_started c.config.slots c.config.durations c.clock
 
 -- D6, D7: whom a tick runs
 abbrev pub tick_runner : Core → ℕ
-tick_runner c = runner_of (tick_owner c) (first_of (ready_at c) (entries c.queue)) c.vms
+tick_runner c = runner_of (tick_owner c) (front_of (entries c.queue)) c.vms
 
 pub tick_who : (c : Core) (at : ℕ) → (tick_turn c at).who ≡ tick_runner c
 unfolding tick_turn
-tick_who c at = turn-who c.running at c.config.count (tick_owner c) (first_of (ready_at c) (entries c.queue)) (tick_clock c).left c.config.handlers c.vms
+tick_who c at = turn-who c.running at c.config.count (tick_owner c) (front_of (entries c.queue)) (tick_clock c).left c.config.handlers c.vms
 
 pub tick_standing : (c : Core) (at k : ℕ) → (get_or (tick_turn c at).vms k fresh).standing ≡ (vm_at c k).standing
 unfolding tick_turn
-tick_standing c at k = turn-standing c.running at c.config.count (tick_owner c) (first_of (ready_at c) (entries c.queue)) (tick_clock c).left c.config.handlers c.vms k
+tick_standing c at k = turn-standing c.running at c.config.count (tick_owner c) (front_of (entries c.queue)) (tick_clock c).left c.config.handlers c.vms k
 
 pub tick_other : (c : Core) (at k : ℕ) → (k ≡ c.running → ⊥) → (k ≡ tick_runner c → ⊥) → c.config.count ≤ k → get_or (tick_turn c at).vms k fresh ≡ vm_at c k
 unfolding tick_turn
-tick_other c at k = turn-other c.running at c.config.count (tick_owner c) (first_of (ready_at c) (entries c.queue)) (tick_clock c).left c.config.handlers c.vms k
+tick_other c at k = turn-other c.running at c.config.count (tick_owner c) (front_of (entries c.queue)) (tick_clock c).left c.config.handlers c.vms k
 
--- who is ready or paused is who was
-pub tick_alive : (c : Core) (at k : ℕ) → is_alive (get_or (tick_turn c at).vms k fresh) ≡ alive_at c k
-tick_alive c at k = rw (tick_standing c at k)
+-- readiness is what it was
+pub tick_ready : (c : Core) (at k : ℕ) → is_ready (get_or (tick_turn c at).vms k fresh) ≡ ready_at c k
+tick_ready c at k = rw (tick_standing c at k)
 
 -- whom a tick runs is a VM of the configuration
 pub tick_below : (c : Core) → Shaped c → Sound c → (tick_runner c ≡ nobody → ⊥) → tick_runner c < c.config.count
@@ -284,19 +273,19 @@ module _ (c : Core) (p : Shaped c) (s : Sound c) (on : is_started c.clock ≡ tr
   pub tick-sound : Sound (tick_core c at)
   tick-sound =
       let k = tick_on_table c s in
-      let w = queued_in c.config.room c.vms (tick_turn c at).vms (tick_queue c) (λ k h. tick_alive c at k ∙ h) (tick-queued c p s) in
+      let w = queued_in c.config.room c.vms (tick_turn c at).vms (tick_queue c) (λ k h. tick_ready c at k ∙ h) (tick-queued c p s) in
       let who = tick_who c at in
       record {
         legal = s.legal;
         rest = λ i h l. tick_other c at i (no_vm i c.running h l (running-below c p.records s)) (no_vm i (tick_runner c) h l (tick_below c p s)) h ∙ s.rest i h l;
         few = w.few;
-        queued = w.alive;
+        queued = w.ready;
         padded = w.padded;
         first = λ h. false_true (sym h ∙ rw (tick_ticked c));
         unstarted = λ h. false_true (sym h ∙ rw (tick_started c) on);
         slot = λ h. k.slot;
         left = λ h. (k.some, k.most);
-        alive = λ h. rw who (tick_alive c at (tick_runner c) ∙ ready_alive c (tick_runner c) (runner_facts c p s (tick_owner c) (λ e. h (who ∙ e))).0);
+        ready = λ h. rw who (tick_ready c at (tick_runner c) ∙ (runner_facts c p s (tick_owner c) (λ e. h (who ∙ e))).0);
         named = λ h. rw who (runner_facts c p s (tick_owner c) (λ e. h (who ∙ e))).1;
         flags = (omega (arith, tick_started c, s.flags.0), omega (arith, tick_ticked c));
         standings = λ i h. rw (tick_standing c at i) (s.standings i h);
@@ -306,11 +295,11 @@ module _ (c : Core) (p : Shaped c) (s : Sound c) (on : is_started c.clock ≡ tr
 -- ---- every event
 
 module _ (c : Core) (p : Shaped c) (s : Sound c) where
-  -- the record of the VM that runs, with the standing that it had
+  -- the record of the VM that runs, changed but ready
   goes_on : is_started c.clock ≡ true → (c.running ≡ nobody → ⊥) → (vm : Vm) → vm.standing ≡ (vm_at c c.running).standing
       → (q : Queue) → Queued c.config.room c.vms q → Sound (replaced c c.running vm c.running q)
   goes_on on h vm e q w =
-      renewed_over c p.records s on c.running (running-below c p.records s h) vm (rw e (s.alive h)) q w
+      renewed_over c p.records s on c.running (running-below c p.records s h) vm (rw e (s.ready h)) q w
 
   ends : is_started c.clock ≡ true → (c.running ≡ nobody → ⊥) → (vm : Vm) → vm.standing ≤ last_standing
       → Sound (replaced c c.running vm (running_without c.running c.running) (queue_without c.queue c.running))
@@ -325,17 +314,17 @@ module _ (c : Core) (p : Shaped c) (s : Sound c) where
       (λ z. goes_on on h (deliver hd vm).vm (deliver_standing hd vm) c.queue (queued_now c s))
       (λ z. goes_on on h (deliver hd (back_from vm)).vm (deliver_standing hd (back_from vm)) c.queue (queued_now c s))
       (λ z l. goes_on on h (deliver hd (pend argument vm)).vm (deliver_standing hd (pend argument vm) ∙ pend_standing argument vm) c.queue (queued_now c s))
-      (λ z l. ends on h (with_standing 4 vm) (omega arith))
-      (λ z. ends on h (with_standing 3 vm) (omega arith))
+      (λ z l. ends on h (ended_as 4 vm) (omega arith))
+      (λ z. ends on h (ended_as 3 vm) (omega arith))
       (λ z l. goes_on on h vm refl c.queue (queued_now c s))
-      (λ z l. goes_on on h vm refl (pushed c.running c.queue) (pushed-queued c p s c.running (s.alive h) (leb-false c.config.room c.queue.len l)))
-      (λ z. ends on h (with_standing 4 vm) (omega arith))
+      (λ z l. goes_on on h vm refl (pushed c.running c.queue) (pushed-queued c p s c.running (s.ready h) (leb-false c.config.room c.queue.len l)))
+      (λ z. ends on h (ended_as 4 vm) (omega arith))
 
   pub done-sound : (e : Event) → row_of c e ≡ 0 → Sound (done c e).core
   unfolding done
   done-sound Start r = start_sound c p.records s (row_start c r)
   done-sound (Tick at) r = tick-sound c p s (row_tick c at r) at
-  done-sound (Stop v) r = let a = row_stop c v r in ended_sound c p s a.0 v a.1 (with_standing 2 (vm_at c v)) (omega arith)
+  done-sound (Stop v) r = let a = row_stop c v r in ended_sound c p s a.0 v a.1 (ended_as 2 (vm_at c v)) (omega arith)
   done-sound (Shutdown v) r =
       let a = row_shutdown c v r in
       renewed_over c p.records s a.0 v a.1 (pend 11 (vm_at c v)) (rw (pend_standing 11 (vm_at c v)) a.2) c.queue (queued_now c s)
@@ -344,21 +333,18 @@ module _ (c : Core) (p : Shaped c) (s : Sound c) where
       renewed_sound c p.records s a.0 v a.1 (started_at (entry_at c.config v)) refl (queue_without c.queue v) (without-queued c p s v (started_at (entry_at c.config v)))
   done-sound (Extra v) r =
       let a = row_extra c v r in
-      let y = ready_alive c v a.2 in
-      renewed_over c p.records s a.0 v a.1 (vm_at c v) y (pushed v c.queue) (pushed-queued c p s v y a.3)
+      renewed_over c p.records s a.0 v a.1 (vm_at c v) a.2 (pushed v c.queue) (pushed-queued c p s v a.2 a.3)
   done-sound (Call k n a) r = let b = row_call c k n a r in call-sound b.0 b.1 k n a
   done-sound (Write o x) r =
       let a = row_write c o x r in
       goes_on a.0 a.1 (write o x (vm_at c c.running)) (write_standing o x (vm_at c c.running)) c.queue (queued_now c s)
-  done-sound (Fault k d) r = let a = row_fault c k d r in ends a.0 a.1 (with_standing 4 (vm_at c c.running)) (omega arith)
+  done-sound (Fault k d) r = let a = row_fault c k d r in ends a.0 a.1 (ended_as 4 (vm_at c c.running)) (omega arith)
   done-sound (Copy q w) r =
       let a = row_copy c q w r in
       let vm : Vm = saved_at q.next (vm_at c c.running) in
       copy_case (λ (d : Change). Sound (changed_by c d).core) c.running c.queue c.running vm (failure_of c w q).code (failure_of c w q).detail
       (λ z. goes_on a.0 a.1 vm refl c.queue (queued_now c s))
-      (λ z. ends a.0 a.1 (with_standing 4 vm) (omega arith))
-  done-sound (Pause v) r = let a = row_pause c v r in renewed_over c p.records s a.0 v a.1 (with_standing 5 (vm_at c v)) refl c.queue (queued_now c s)
-  done-sound (Resume v) r = let a = row_resume c v r in renewed_over c p.records s a.0 v a.1 (with_standing 1 (vm_at c v)) refl c.queue (queued_now c s)
+      (λ z. ends a.0 a.1 (ended_as 4 vm) (omega arith))
 
 -- W1 to W13: every event keeps them
 pub step_facts : (c : Core) (e : Event) → Shaped c → Sound c → Sound (step_of c e).core

@@ -14,15 +14,15 @@ use Rattle.basis.specs.Choice.{either}
 use Rattle.basis.specs.Nobody.{nobody}
 use Rattle.config.proofs.Legality.{legal_is, legal_of}
 use Rattle.config.specs.Sizes.{duration_at, is_spare, legal}
-use Rattle.rig_core.specs.Sound.{Sound, config_sound, counts_true, few_queued, idle_at_first, left_sound, none_ready, nothing_begun, numbers_known, places_empty, queued_alive, rest_sound, runner_named, runner_alive, slot_sound, sound, standings_known, start_sound}
-use Rattle.rig_core.specs.State.{Shaped, alive_at, idle, owner_now, ready_at, vm_at}
+use Rattle.rig_core.specs.Sound.{Sound, config_sound, counts_true, few_queued, idle_at_first, left_sound, none_ready, nothing_begun, numbers_known, places_empty, queued_ready, rest_sound, runner_named, runner_ready, slot_sound, sound, standings_known, start_sound}
+use Rattle.rig_core.specs.State.{Shaped, idle, owner_now, ready_at, vm_at}
 use Rattle.rig_core.specs.declared.Core.{Core}
 use Rattle.guest.proofs.Facts.{fresh_is, fresh_of}
 use Rattle.guest.specs.Record.{fresh, last_standing}
 use Rattle.queue.proofs.Counted.{counted_is, counted_of_lem, entries_few, entries_none}
 use Rattle.queue.proofs.Lists.{take_at_in}
 use Rattle.queue.proofs.Meaning.{all_map, all_of, entries_length, of_entries}
-use Rattle.queue.specs.Entries.{All, entries, entries_of, holding, padded_of}
+use Rattle.queue.specs.Entries.{All, entries, entries_of, holding, padded_of, rest}
 use Rattle.table.specs.Position.{has_ticked, is_started}
 use Rattle.vms.specs.Records.{rest_fresh}
 
@@ -62,13 +62,13 @@ record Tests (c : Core) : Type 0 where
   legal : config_sound c ≡ true
   rest : rest_sound c ≡ true
   few : few_queued c ≡ true
-  queued : queued_alive c ≡ true
+  queued : queued_ready c ≡ true
   padded : places_empty c ≡ true
   first : idle_at_first c ≡ true
   begun : start_sound c ≡ true
   slot : slot_sound c ≡ true
   left : left_sound c ≡ true
-  alive : runner_alive c ≡ true
+  ready : runner_ready c ≡ true
   named : runner_named c ≡ true
   numbers : numbers_known c ≡ true
   counted : counts_true c ≡ true
@@ -79,25 +79,25 @@ tests_is c e =
     let e1 = both_right (config_sound c) _ e in
     let e2 = both_right (rest_sound c) _ e1 in
     let e3 = both_right (few_queued c) _ e2 in
-    let e4 = both_right (queued_alive c) _ e3 in
+    let e4 = both_right (queued_ready c) _ e3 in
     let e5 = both_right (places_empty c) _ e4 in
     let e6 = both_right (idle_at_first c) _ e5 in
     let e7 = both_right (start_sound c) _ e6 in
     let e8 = both_right (slot_sound c) _ e7 in
     let e9 = both_right (left_sound c) _ e8 in
-    let e10 = both_right (runner_alive c) _ e9 in
+    let e10 = both_right (runner_ready c) _ e9 in
     let e11 = both_right (runner_named c) _ e10 in
     record {
       legal = both_left (config_sound c) _ e;
       rest = both_left (rest_sound c) _ e1;
       few = both_left (few_queued c) _ e2;
-      queued = both_left (queued_alive c) _ e3;
+      queued = both_left (queued_ready c) _ e3;
       padded = both_left (places_empty c) _ e4;
       first = both_left (idle_at_first c) _ e5;
       begun = both_left (start_sound c) _ e6;
       slot = both_left (slot_sound c) _ e7;
       left = both_left (left_sound c) _ e8;
-      alive = both_left (runner_alive c) _ e9;
+      ready = both_left (runner_ready c) _ e9;
       named = both_left (runner_named c) _ e10;
       numbers = both_left (numbers_known c) _ e11;
       counted = both_right (numbers_known c) _ e11;
@@ -109,13 +109,13 @@ tests_of c t =
     both_of (config_sound c) _ t.legal
     (both_of (rest_sound c) _ t.rest
     (both_of (few_queued c) _ t.few
-    (both_of (queued_alive c) _ t.queued
+    (both_of (queued_ready c) _ t.queued
     (both_of (places_empty c) _ t.padded
     (both_of (idle_at_first c) _ t.first
     (both_of (start_sound c) _ t.begun
     (both_of (slot_sound c) _ t.slot
     (both_of (left_sound c) _ t.left
-    (both_of (runner_alive c) _ t.alive
+    (both_of (runner_ready c) _ t.ready
     (both_of (runner_named c) _ t.named
     (both_of (numbers_known c) _ t.numbers
     t.counted)))))))))))
@@ -144,7 +144,7 @@ unstarted_of c u =
 
 -- a state that passes the test keeps W1 to W13
 pub sound_is : (c : Core) → sound c ≡ true → Sound c
-unfolding queued_alive standings_known rest_fresh padded_of
+unfolding queued_ready standings_known rest_fresh padded_of
 sound_is c e =
     let t = tests_is c e in
     let n = both_right (leb c.clock.started 1) _ t.numbers in
@@ -158,7 +158,7 @@ sound_is c e =
       unstarted = λ h. unstarted_is c (unless_is (is_started c.clock) _ t.begun h);
       slot = λ h. ltb-true c.clock.slot c.config.slots (where_is (has_ticked c.clock) _ t.slot h);
       left = λ h. within_is 1 (duration_at c.config c.clock.slot) c.clock.left (where_is (has_ticked c.clock) _ t.left h);
-      alive = λ h. unless_is (idle c) _ t.alive (ne_eqb c.running nobody h);
+      ready = λ h. unless_is (idle c) _ t.ready (ne_eqb c.running nobody h);
       named = λ h. named_is (owner_now c) c.running (unless_is (idle c) _ t.named (ne_eqb c.running nobody h));
       flags = (leb-true c.clock.started 1 (both_left (leb c.clock.started 1) _ t.numbers), leb-true c.clock.ticked 1 (both_left (leb c.clock.ticked 1) _ n));
       standings = λ k h. leb-true (vm_at c k).standing last_standing (every-is _ 8 (both_right (leb c.clock.ticked 1) _ n) k h);
@@ -167,7 +167,7 @@ sound_is c e =
 
 -- and a state that keeps W1 to W13 passes it: nothing beyond them is asked (W14)
 pub sound_of : (c : Core) → Sound c → sound c ≡ true
-unfolding queued_alive standings_known rest_fresh padded_of
+unfolding queued_ready standings_known rest_fresh padded_of
 sound_of c s =
     tests_of c
     (record {
@@ -180,7 +180,7 @@ sound_of c s =
       begun = unless_of (is_started c.clock) _ (λ h. unstarted_of c (s.unstarted h));
       slot = where_of (has_ticked c.clock) _ (λ h. lt-ltb c.clock.slot c.config.slots (s.slot h));
       left = where_of (has_ticked c.clock) _ (λ h. (let w = s.left h in within_of 1 (duration_at c.config c.clock.slot) c.clock.left w.0 w.1));
-      alive = unless_of (idle c) _ (λ h. s.alive (eqb-false c.running nobody h));
+      ready = unless_of (idle c) _ (λ h. s.ready (eqb-false c.running nobody h));
       named = unless_of (idle c) _ (λ h. named_of (owner_now c) c.running (s.named (eqb-false c.running nobody h)));
       numbers = both_of (leb c.clock.started 1) _ (le-leb c.clock.started 1 s.flags.0)
           (both_of (leb c.clock.ticked 1) _ (le-leb c.clock.ticked 1 s.flags.1)
@@ -236,10 +236,6 @@ module _ (c : Core) (s : Sound c) where
   pub runs-started : (c.running ≡ nobody → ⊥) → is_started c.clock ≡ true
   runs-started h = ticked-started (runs-ticked h)
 
--- a VM that is ready is ready or paused
-pub ready_alive : (c : Core) (v : ℕ) → ready_at c v ≡ true → alive_at c v ≡ true
-ready_alive c v r = either_left (ready_at c v) _ r
-
 module _ (c : Core) (n : length c.vms ≡ 8) (s : Sound c) where
   -- W2: records past the VM count are fresh, and there is none past the eighth
   pub past-fresh : (k : ℕ) → c.config.count ≤ k → vm_at c k ≡ fresh
@@ -249,20 +245,17 @@ module _ (c : Core) (n : length c.vms ≡ 8) (s : Sound c) where
         | no l ↦ (let g : length c.vms ≤ k = omega arith in get_or-eq_default c.vms fresh g)
       ]
 
-  -- so a VM that is ready or paused is one of the configuration
-  pub alive-below : (v : ℕ) → alive_at c v ≡ true → v < c.config.count
-  alive-below v r =
+  -- so a VM that is ready is one of the configuration
+  pub ready-below : (v : ℕ) → ready_at c v ≡ true → v < c.config.count
+  ready-below v r =
       elim (dec_lt v c.config.count) [
         | yes l ↦ l
         | no l ↦ (let h : c.config.count ≤ v = omega arith in false_true (rw (past-fresh v h) at r))
       ]
 
-  pub ready-below : (v : ℕ) → ready_at c v ≡ true → v < c.config.count
-  ready-below v r = alive-below v (ready_alive c v r)
-
   -- the VM that runs is one of the configuration
   pub running-below : (c.running ≡ nobody → ⊥) → c.running < c.config.count
-  running-below h = alive-below c.running (s.alive h)
+  running-below h = ready-below c.running (s.ready h)
 
   pub running-who : (c.running ≡ nobody) ⊎ (c.running < c.config.count)
   running-who =
@@ -290,14 +283,14 @@ module _ (c : Core) (p : Shaped c) (s : Sound c) where
   pub entries-len : length (entries c.queue) ≡ c.queue.len
   entries-len = entries_length c.queue p.places.items (len-most c s)
 
-  -- W4: each entry names a VM that is ready or paused, so one of the configuration
-  pub entries-alive : All (λ x. alive_at c x ≡ true) (entries c.queue)
-  entries-alive =
+  -- W4: each entry names a VM that is ready, so one of the configuration
+  pub entries-ready : All (λ x. ready_at c x ≡ true) (entries c.queue)
+  entries-ready =
       all_of _ (entries c.queue)
       (λ k h. (let l : k < c.queue.len = omega (arith, entries-len) in rw (take_at_in c.queue.len c.queue.items k l) (s.queued k l)))
 
   pub entries_below : All (λ x. x < c.config.count) (entries c.queue)
-  entries_below = all_map _ _ (λ x r. alive-below c p.records s x r) (entries c.queue) entries-alive
+  entries_below = all_map _ _ (λ x r. ready-below c p.records s x r) (entries c.queue) entries-ready
 
   -- W13: a number past the VM count has no entry, so its count is 0
   pub past-uncounted : (v : ℕ) → c.config.count ≤ v → v < 8 → get_or c.queue.counts v 0 ≡ 0

@@ -12,18 +12,17 @@ use Rattle.config.specs.Sizes.{is_spare}
 use Rattle.config.specs.declared.Config.{Config}
 use Rattle.rig_core.specs.Changes.{replaced}
 use Rattle.rig_core.specs.Events.{done, failure_of, start_core, step_of, tick_clock, tick_owner, tick_queue, tick_turn}
-use Rattle.rig_core.specs.State.{Shaped, fresh_core, full, ready_at, with_clock, with_queue, with_running, with_vms}
+use Rattle.rig_core.specs.State.{Shaped, fresh_core, full, with_clock, with_queue, with_running, with_vms}
 use Rattle.rig_core.specs.declared.Core.{Core}
 use Rattle.core_laws.proofs.Refused.{refused_core}
 use Rattle.core_laws.proofs.View.{call-case, copy_case, done_case, step_case}
 use Rattle.event.specs.Kinds.{is_start, is_tick}
-use Rattle.event.specs.declared.Event.TheVariants.{Call, Copy, Extra, Fault, Pause, Restart, Resume, Shutdown, Start, Stop, Tick, Write}
+use Rattle.event.specs.declared.Event.TheVariants.{Call, Copy, Extra, Fault, Restart, Shutdown, Start, Stop, Tick, Write}
 use Rattle.event.specs.declared.Event.{Event}
 use Rattle.guest.specs.Record.{started_at}
 use Rattle.guest.specs.declared.Vm.{Vm}
-use Rattle.queue.proofs.Meaning.{places_pushed, places_without}
-use Rattle.queue.proofs.Middle.{places-taken}
-use Rattle.queue.specs.Entries.{Places, entries, first_of}
+use Rattle.queue.proofs.Meaning.{places_popped, places_pushed, places_without}
+use Rattle.queue.specs.Entries.{Places, entries, front_of}
 use Rattle.queue.specs.declared.Queue.{Queue}
 use Rattle.table.proofs.Moves.{SamePlace, same_place}
 use Rattle.table.specs.Position.{next_clock}
@@ -94,7 +93,7 @@ tick_places : (c : Core) → Shaped c → Places (tick_queue c)
 unfolding tick_queue
 tick_places c s =
     pick_case (λ (q : Queue). Places q) (is_spare (tick_owner c)) _ _
-    (λ h. places-taken (ready_at c) c.queue s.places)
+    (λ h. places_popped c.queue s.places)
     (λ h. s.places)
 
 pub shaped_done : (c : Core) → Shaped c → (e : Event) → Shaped (done c e).core
@@ -102,7 +101,7 @@ unfolding done start_core tick_turn
 shaped_done c s Start = reshaped c s _ c.running c.queue _ (each-length (λ k v. started_at (get_or c.config.entries k 0)) c.vms c.config.count ∙ s.records) s.places
 shaped_done c s (Tick at) =
     reshaped c s (tick_clock c) _ (tick_queue c) _
-    (turn_length c.running at c.config.count (tick_owner c) (first_of (ready_at c) (entries c.queue)) (tick_clock c).left c.config.handlers c.vms ∙ s.records)
+    (turn_length c.running at c.config.count (tick_owner c) (front_of (entries c.queue)) (tick_clock c).left c.config.handlers c.vms ∙ s.records)
     (tick_places c s)
 shaped_done c s (Stop v) = shaped_replaced c s _ _ _ _ (without_places c s v)
 shaped_done c s (Shutdown v) = shaped_replaced c s _ _ _ _ s.places
@@ -119,8 +118,6 @@ shaped_done c s (Copy p w) =
     shaped_replaced c s _ _ _ _
     (copy_case (λ (d : Change). Places d.queue) c.running c.queue c.running _ (failure_of c w p).code (failure_of c w p).detail
     (λ h. s.places) (λ h. without_places c s c.running))
-shaped_done c s (Pause v) = shaped_replaced c s _ _ _ _ s.places
-shaped_done c s (Resume v) = shaped_replaced c s _ _ _ _ s.places
 
 -- T1, T5: eight records, sixteen places and eight counts
 pub shaped_step : (c : Core) (e : Event) → Shaped c → Shaped (step_of c e).core

@@ -5,14 +5,13 @@ use mathlib.Core.Bool.{Bool, false, true}
 use mathlib.Core.Path.{ap, refl, subst, sym, ◌∙◌, ◌≡◌}
 use Rattle.basis.specs.Nobody.{nobody}
 use Rattle.change.specs.Answers.{no_notice}
-use Rattle.rig_core.proofs.Inner.{not_1}
 use Rattle.rig_core.specs.Events.{done, step_of}
 use Rattle.rig_core.specs.Refusals.{refusal_of, refused}
 use Rattle.rig_core.specs.Sound.{sound}
 use Rattle.rig_core.specs.State.{address_of}
 use Rattle.rig_core.specs.declared.Core.{Core}
 use Rattle.rig_core.specs.declared.Stepped.{Stepped}
-use Rattle.core_laws.proofs.View.{accepted_of, done_case, refusal_row, refusal_unsound, step_case, step_refused}
+use Rattle.core_laws.proofs.View.{accepted_of, done_case, refusal_row, refusal_unsound, row_not_one, step_case, step_refused}
 use Rattle.event.specs.declared.Event.{Event}
 
 -- ---- a refusal
@@ -87,14 +86,14 @@ step_shows c e s =
     (λ y r. done_shows c e)
   where
     never : (n : ℕ) → refusal_of c e ≡ n → n ≡ 1 → ⊥
-    never n q h = not_1 c e (sym (refusal_row c e s) ∙ q ∙ h)
+    never n q h = row_not_one c e (sym (refusal_row c e s) ∙ q ∙ h)
 
 -- R1: row 1 is for states that are not sound, and for them alone
 pub refusal_one : (c : Core) (e : Event) → refusal_of c e ≡ 1 → sound c ≡ false
 refusal_one c e h = go (sound c) refl
   where
     go : (b : Bool) → sound c ≡ b → b ≡ false
-    go true f = absurd (not_1 c e (sym (refusal_row c e f) ∙ h))
+    go true f = absurd (row_not_one c e (sym (refusal_row c e f) ∙ h))
     go false f = refl
 
 -- T7, R3: on a state that is not sound the answer shows no VM

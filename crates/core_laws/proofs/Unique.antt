@@ -26,14 +26,10 @@ use Rattle.rig_core.proofs.Core.inner.Kinds as core-inner-kinds
 use Rattle.rig_core.proofs.Core.inner.Reads as core-inner-reads
 use Rattle.rig_core.proofs.Core.kept.Kinds as core-kept-kinds
 use Rattle.rig_core.proofs.Core.kept.Reads as core-kept-reads
-use Rattle.rig_core.proofs.Core.pause.Kinds as core-pause-kinds
-use Rattle.rig_core.proofs.Core.pause.Reads as core-pause-reads
 use Rattle.rig_core.proofs.Core.refused.Kinds as core-refused-kinds
 use Rattle.rig_core.proofs.Core.refused.Reads as core-refused-reads
 use Rattle.rig_core.proofs.Core.restart.Kinds as core-restart-kinds
 use Rattle.rig_core.proofs.Core.restart.Reads as core-restart-reads
-use Rattle.rig_core.proofs.Core.resume.Kinds as core-resume-kinds
-use Rattle.rig_core.proofs.Core.resume.Reads as core-resume-reads
 use Rattle.rig_core.proofs.Core.shutdown.Kinds as core-shutdown-kinds
 use Rattle.rig_core.proofs.Core.shutdown.Reads as core-shutdown-reads
 use Rattle.rig_core.proofs.Core.sound.Kinds as core-sound-kinds
@@ -97,12 +93,6 @@ core_after_one κs a x y s t p q = p ∙ sym q
 
 pub core_kept_one : OneAnswer 0 core-kept-kinds.ps core-kept-kinds.r core-kept-reads.Post
 core_kept_one κs a x y s t p q = p ∙ sym q
-
-pub core_pause_one : OneAnswer 0 core-pause-kinds.ps core-pause-kinds.r core-pause-reads.Post
-core_pause_one κs a x y s t p q = p ∙ sym q
-
-pub core_resume_one : OneAnswer 0 core-resume-kinds.ps core-resume-kinds.r core-resume-reads.Post
-core_resume_one κs a x y s t p q = p ∙ sym q
 
 pub core_copy_one : OneAnswer 1 core-copy-kinds.ps core-copy-kinds.r core-copy-reads.Post
 core_copy_one κs a x y s t p q = p.0 ∙ sym q.0

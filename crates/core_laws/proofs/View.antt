@@ -8,7 +8,7 @@ use native.Mathlib.Omega.{arith}
 use Rattle.basis.proofs.Bounds.{within_is, within_of}
 use Rattle.basis.proofs.Laws.{pick_case}
 use Rattle.basis.specs.Bounds.{within}
-use Rattle.basis.specs.Choice.{pick}
+use Rattle.basis.specs.Choice.{both, pick}
 use Rattle.basis.specs.Nobody.{nobody}
 use Rattle.change.specs.Answers.{no_notice, notice_of}
 use Rattle.change.specs.Changes.{called_from, copying_from, delivering_from, ending_from, failing_from, queueing_from, renewed_from, turned_away_from}
@@ -17,16 +17,17 @@ use Rattle.rig_core.specs.Changes.{answering, changed_by}
 use Rattle.rig_core.specs.Events.{done, start_core, step_of, tick_core, tick_turn}
 use Rattle.rig_core.specs.Refusals.{refusal_of, refused, row_of}
 use Rattle.rig_core.specs.Sound.{sound}
-use Rattle.rig_core.specs.State.{alive_at, full, idle, ready_at, vm_at}
+use Rattle.rig_core.specs.State.{full, idle, ready_at}
 use Rattle.rig_core.specs.declared.Core.{Core}
 use Rattle.rig_core.specs.declared.Stepped.{Stepped}
-use Rattle.event.specs.Kinds.{is_start, is_tick}
-use Rattle.event.specs.declared.Event.TheVariants.{Call, Copy, Extra, Fault, Pause, Restart, Resume, Shutdown, Start, Stop, Tick, Write}
+use Rattle.event.specs.Kinds.{is_extra, is_start, is_tick, of_master, of_running, subject, wants_ready}
+use Rattle.event.specs.declared.Event.TheVariants.{Call, Copy, Extra, Fault, Restart, Shutdown, Start, Stop, Tick, Write}
 use Rattle.event.specs.declared.Event.{Event}
 use Rattle.guest.specs.Deliver.{back_from, deliver}
-use Rattle.guest.specs.Record.{pend, stands_paused}
+use Rattle.guest.specs.Record.{pend}
 use Rattle.guest.specs.Write.{is_field}
 use Rattle.guest.specs.declared.Vm.{Vm}
+use Rattle.logic.specs.Rows.{stray_fault, stray_write}
 use Rattle.queue.specs.declared.Queue.{Queue}
 use Rattle.table.specs.Position.{is_started}
 use Rattle.window.specs.declared.Pieces.{Pieces}
@@ -111,6 +112,22 @@ row_next false n m h e = (refl, e)
 row_last : (b : Bool) (n : ℕ) → 0 < n → pick b n 0 ≡ 0 → b ≡ false
 row_last b n h e = (row_next b n 0 h e).0
 
+-- no row but the first gives 1
+pub row_not_one : (c : Core) (e : Event) → row_of c e ≡ 1 → ⊥
+unfolding row_of
+row_not_one c e h =
+    pick_case P (both (is_start e) (is_started c.clock)) _ _ (λ t z. absurd (omega arith))
+    (λ t. pick_case P (both (not (is_start e)) (not (is_started c.clock))) _ _ (λ t z. absurd (omega arith))
+    (λ t. pick_case P (both (of_master e) (not (ltb (subject e) c.config.count))) _ _ (λ t z. absurd (omega arith))
+    (λ t. pick_case P (both (wants_ready e) (not (ready_at c (subject e)))) _ _ (λ t z. absurd (omega arith))
+    (λ t. pick_case P (both (is_extra e) (full c)) _ _ (λ t z. absurd (omega arith))
+    (λ t. pick_case P (both (of_running e) (idle c)) _ _ (λ t z. absurd (omega arith))
+    (λ t. pick_case P (stray_write e) _ _ (λ t z. absurd (omega arith))
+    (λ t. pick_case P (stray_fault e) _ _ (λ t z. absurd (omega arith)) (λ t z. absurd (omega arith))))))))) h
+  where
+    P : ℕ → Type 0
+    P n = n ≡ 1 → ⊥
+
 pub row_start : (c : Core) → row_of c Start ≡ 0 → is_started c.clock ≡ false
 unfolding row_of
 row_start c r = row_last (is_started c.clock) 7 (omega arith) r
@@ -131,25 +148,22 @@ row_known c v m r =
 row_ready : (c : Core) (v m : ℕ) → pick (not (ready_at c v)) 4 m ≡ 0 → (ready_at c v ≡ true) × (m ≡ 0)
 row_ready c v m r = let a = row_next (not (ready_at c v)) 4 m (omega arith) r in (not-false (ready_at c v) a.0, a.1)
 
-row_alive : (c : Core) (v m : ℕ) → pick (not (alive_at c v)) 4 m ≡ 0 → (alive_at c v ≡ true) × (m ≡ 0)
-row_alive c v m r = let a = row_next (not (alive_at c v)) 4 m (omega arith) r in (not-false (alive_at c v) a.0, a.1)
-
 row_runs : (c : Core) (m : ℕ) → pick (idle c) 5 m ≡ 0 → (c.running ≡ nobody → ⊥) × (m ≡ 0)
 row_runs c m r = let a = row_next (idle c) 5 m (omega arith) r in (eqb-false c.running nobody a.0, a.1)
 
-pub row_stop : (c : Core) (v : ℕ) → row_of c (Stop v) ≡ 0 → (is_started c.clock ≡ true) × (v < c.config.count) × (alive_at c v ≡ true)
+pub row_stop : (c : Core) (v : ℕ) → row_of c (Stop v) ≡ 0 → (is_started c.clock ≡ true) × (v < c.config.count) × (ready_at c v ≡ true)
 unfolding row_of
 row_stop c v r =
     let a = row_begun c _ r in
     let b = row_known c v _ a.1 in
-    (a.0, b.0, (row_alive c v _ b.1).0)
+    (a.0, b.0, (row_ready c v _ b.1).0)
 
-pub row_shutdown : (c : Core) (v : ℕ) → row_of c (Shutdown v) ≡ 0 → (is_started c.clock ≡ true) × (v < c.config.count) × (alive_at c v ≡ true)
+pub row_shutdown : (c : Core) (v : ℕ) → row_of c (Shutdown v) ≡ 0 → (is_started c.clock ≡ true) × (v < c.config.count) × (ready_at c v ≡ true)
 unfolding row_of
 row_shutdown c v r =
     let a = row_begun c _ r in
     let b = row_known c v _ a.1 in
-    (a.0, b.0, (row_alive c v _ b.1).0)
+    (a.0, b.0, (row_ready c v _ b.1).0)
 
 pub row_restart : (c : Core) (v : ℕ) → row_of c (Restart v) ≡ 0 → (is_started c.clock ≡ true) × (v < c.config.count)
 unfolding row_of
@@ -194,20 +208,6 @@ row_copy c p w r =
     let b = row_begun c _ r in
     (b.0, (row_runs c _ b.1).0)
 
-pub row_pause : (c : Core) (v : ℕ) → row_of c (Pause v) ≡ 0 → (is_started c.clock ≡ true) × (v < c.config.count) × (ready_at c v ≡ true)
-unfolding row_of
-row_pause c v r =
-    let a = row_begun c _ r in
-    let b = row_known c v _ a.1 in
-    (a.0, b.0, (row_ready c v _ b.1).0)
-
-pub row_resume : (c : Core) (v : ℕ) → row_of c (Resume v) ≡ 0 → (is_started c.clock ≡ true) × (v < c.config.count) × (stands_paused (vm_at c v).standing ≡ true)
-unfolding row_of
-row_resume c v r =
-    let a = row_begun c _ r in
-    let b = row_known c v _ a.1 in
-    (a.0, b.0, not-false (stands_paused (vm_at c v).standing) (row_last (not (stands_paused (vm_at c v).standing)) 11 (omega arith) b.1))
-
 -- ---- and when no row applies
 
 pub start_row : (c : Core) → is_started c.clock ≡ false → row_of c Start ≡ 0
@@ -219,11 +219,11 @@ pub tick_row : (c : Core) (at : ℕ) → is_started c.clock ≡ true → row_of 
 unfolding row_of
 tick_row c at h = rw h
 
-pub stop_row : (c : Core) (v : ℕ) → is_started c.clock ≡ true → v < c.config.count → alive_at c v ≡ true → row_of c (Stop v) ≡ 0
+pub stop_row : (c : Core) (v : ℕ) → is_started c.clock ≡ true → v < c.config.count → ready_at c v ≡ true → row_of c (Stop v) ≡ 0
 unfolding row_of
 stop_row c v h l y = rw (h, lt-ltb v c.config.count l, y)
 
-pub shutdown_row : (c : Core) (v : ℕ) → is_started c.clock ≡ true → v < c.config.count → alive_at c v ≡ true → row_of c (Shutdown v) ≡ 0
+pub shutdown_row : (c : Core) (v : ℕ) → is_started c.clock ≡ true → v < c.config.count → ready_at c v ≡ true → row_of c (Shutdown v) ≡ 0
 unfolding row_of
 shutdown_row c v h l y = rw (h, lt-ltb v c.config.count l, y)
 
@@ -253,14 +253,6 @@ fault_row c k d h i l m = rw (h, ne_eqb c.running nobody i, within_of 3 5 k l m)
 pub copy_row : (c : Core) (p : Pieces) (w : Window) → is_started c.clock ≡ true → (c.running ≡ nobody → ⊥) → row_of c (Copy p w) ≡ 0
 unfolding row_of
 copy_row c p w h i = rw (h, ne_eqb c.running nobody i)
-
-pub pause_row : (c : Core) (v : ℕ) → is_started c.clock ≡ true → v < c.config.count → ready_at c v ≡ true → row_of c (Pause v) ≡ 0
-unfolding row_of
-pause_row c v h l y = rw (h, lt-ltb v c.config.count l, y)
-
-pub resume_row : (c : Core) (v : ℕ) → is_started c.clock ≡ true → v < c.config.count → stands_paused (vm_at c v).standing ≡ true → row_of c (Resume v) ≡ 0
-unfolding row_of
-resume_row c v h l y = rw (h, lt-ltb v c.config.count l, y)
 
 -- ---- what a Copy does, by what fails in it (D31 to D36)
 
@@ -316,5 +308,3 @@ done_case c P s t f (Call k n a) = f (Call k n a) _ refl refl
 done_case c P s t f (Write o x) = f (Write o x) _ refl refl
 done_case c P s t f (Fault k d) = f (Fault k d) _ refl refl
 done_case c P s t f (Copy p w) = f (Copy p w) _ refl refl
-done_case c P s t f (Pause v) = f (Pause v) _ refl refl
-done_case c P s t f (Resume v) = f (Resume v) _ refl refl

@@ -6,44 +6,43 @@ use lib.ListN.{get_or, length-take, take}
 use lib.Seq.{get_or-take}
 use mathlib.Core.Bool.{Bool, false, true}
 use mathlib.Core.List.{List}
-use mathlib.Core.Logic.{inl, inr, ◌⊎◌, ⊎_elim}
-use mathlib.Core.Path.{ap, refl, subst, sym, ◌∙◌, ◌≡◌}
+use mathlib.Core.Logic.{inl, inr, ◌⊎◌}
+use mathlib.Core.Path.{ap, refl, ◌∙◌, ◌≡◌}
 use native.Mathlib.Omega.{arith}
 use Rattle.basis.proofs.Laws.{both_right}
 use Rattle.basis.specs.Choice.{pick}
 use Rattle.copies.proofs.Requests.{request-fits}
 use Rattle.copies.specs.Failing.{may}
-use Rattle.rig_core.proofs.Copying.{other_event}
 use Rattle.rig_core.specs.Events.{failure_of}
 use Rattle.rig_core.specs.Memory.{copied_by, copies, copy_in, memory_after, memory_as}
 use Rattle.rig_core.specs.Refusals.{refusal_of}
 use Rattle.rig_core.specs.declared.Core.{Core}
 use Rattle.core_laws.specs.Wheels.{AllNew, Published}
-use Rattle.event.proofs.Asking.{copy_or_not}
-use Rattle.event.specs.declared.Event.TheVariants.{Copy}
+use Rattle.event.specs.declared.Event.TheVariants.{Call, Copy, Extra, Fault, Restart, Shutdown, Start, Stop, Tick, Write}
 use Rattle.event.specs.declared.Event.{Event}
 use Rattle.window.proofs.Meaning.{copied_each}
 use Rattle.window.specs.Pieces.{extents, no_extent, window_of}
 use Rattle.window.specs.Ranges.{Apart, all_fit, source_of}
 use Rattle.window.specs.declared.Extent.{Extent}
 use Rattle.window.specs.declared.Pieces.{Pieces}
-use Rattle.window.specs.declared.Window.{Window}
 
--- a Copy copies all or nothing
-copy_all : (c : Core) (p : Pieces) (w : Window) (m : List ℕ) → (memory_after c (Copy p w) m ≡ m) ⊎ Published c (Copy p w) m
+-- C11, D35 to D37: whatever the event and the state, all extents in use are copied, or every byte is as it was
+pub all_or_nothing : (c : Core) (e : Event) (m : List ℕ) → (memory_after c e m ≡ m) ⊎ Published c e m
 unfolding memory_as
-copy_all c p w m = go (copies c w p) refl
+all_or_nothing c Start m = inl refl
+all_or_nothing c (Tick at) m = inl refl
+all_or_nothing c (Stop v) m = inl refl
+all_or_nothing c (Shutdown v) m = inl refl
+all_or_nothing c (Restart v) m = inl refl
+all_or_nothing c (Extra v) m = inl refl
+all_or_nothing c (Call s n at) m = inl refl
+all_or_nothing c (Write o x) m = inl refl
+all_or_nothing c (Fault k d) m = inl refl
+all_or_nothing c (Copy p w) m = go (copies c w p) refl
   where
     go : (b : Bool) → copies c w p ≡ b → (pick (copies c w p) (copied_by w.base p m) m ≡ m) ⊎ Published c (Copy p w) m
     go true h = inr (record { pieces = p; window = w; copy = refl; done = h; all = rw h })
     go false h = inl (rw h)
-
--- C11, D35 to D37: whatever the event and the state, all extents in use are copied, or every byte is as it was
-pub all_or_nothing : (c : Core) (e : Event) (m : List ℕ) → (memory_after c e m ≡ m) ⊎ Published c e m
-all_or_nothing c e m = ⊎_elim (λ h. inl (other_event (refusal_of c e) c e m h)) copied (copy_or_not e)
-  where
-    copied : (p : Pieces) × (w : Window) × (e ≡ Copy p w) → (memory_after c e m ≡ m) ⊎ Published c e m
-    copied (p, w, is) = subst (λ (d : Event). (memory_after c d m ≡ m) ⊎ Published c d m) (sym is) (copy_all c p w m)
 
 module _ (c : Core) (p : Pieces) (base : ℕ) (m : List ℕ) where
   -- the extents in use fit, where nothing fails

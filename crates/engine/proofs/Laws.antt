@@ -3,13 +3,13 @@ use Prim.Native.Nat.{ℕ, ◌≤◌}
 use borrow.Author.Tests.{eq-eqb, ltb-false, ne_eqb}
 use denote.Enum.Declared.{tag_of}
 use lib.Dec.{eqb, leb, ltb}
-use lib.ListN.{get_or-eq_default, get_or-map, get_or, length, set}
+use lib.ListN.{get_or-eq_default, get_or, length, set}
 use mathlib.Core.Bool.{Bool, false, true}
 use mathlib.Core.List.{List}
-use mathlib.Core.Logic.{inl, inr, ◌≢◌, ◌⊎◌}
-use mathlib.Core.Path.{ap, fun_ext, refl, sym, ◌∙◌, ◌≡◌}
+use mathlib.Core.Logic.{inl, inr, ◌⊎◌}
+use mathlib.Core.Path.{ap, refl, sym, ◌∙◌, ◌≡◌}
 use native.Mathlib.Omega.{arith}
-use Rattle.bank.proofs.Laws.{eight, standings_of}
+use Rattle.bank.proofs.Laws.{eight}
 use Rattle.bank.specs.Bank.{vms_of}
 use Rattle.basis.specs.Choice.{pick}
 use Rattle.basis.specs.Nobody.{nobody}
@@ -34,18 +34,18 @@ use Rattle.engine.specs.declared.Moved.{Moved}
 use Rattle.engine.specs.declared.Stand.{Stand}
 use Rattle.event.specs.contracts.Event.{the_type}
 use Rattle.event.specs.Kinds.{is_copy, is_start, is_tick}
-use Rattle.event.specs.declared.Event.TheVariants.{Call, Copy, Extra, Fault, Pause, Restart, Resume, Shutdown, Start, Stop, Tick, Write}
+use Rattle.event.specs.declared.Event.TheVariants.{Call, Copy, Extra, Fault, Restart, Shutdown, Start, Stop, Tick, Write}
 use Rattle.event.specs.declared.Event.{Event}
-use Rattle.guest.specs.Record.{fresh, is_ready, ready_in, saved_at, stands_ready}
+use Rattle.guest.specs.Record.{fresh, is_ready, saved_at}
 use Rattle.guest.specs.declared.Vm.{Vm}
 use Rattle.logic.specs.Changing.{change_from, place_from}
 use Rattle.logic.specs.Rows.{row_from}
-use Rattle.queue.specs.Entries.{ready_among, served}
+use Rattle.queue.specs.Entries.{served}
 use Rattle.queue.specs.declared.Queue.{Queue}
 use Rattle.queue.specs.declared.Served.{Served}
 use Rattle.table.specs.Position.{next_clock, started_clock}
 use Rattle.table.specs.declared.Clock.{Clock}
-use Rattle.vms.specs.Records.{aged_all, standings_of, started_all}
+use Rattle.vms.specs.Records.{aged_all, started_all}
 use Rattle.vms.specs.Tick.{entering, passed, runner_of, saving, turn, turn_by}
 use Rattle.vms.specs.declared.Turn.{Turn}
 use Rattle.window.specs.declared.Pieces.{Pieces}
@@ -62,9 +62,9 @@ module _ (c : Core) (e : Event) (n : ℕ) (r : Stepped) (row : n ≡ row_of c e)
   unfolding inner_of
   inner_done h f = rw (← row, eq-eqb n 0 h) f
 
-module _ (g : Config) (standings words : List ℕ) (p : Stand) (e : Event) (i n standing : ℕ) (m : Moved)
-    (at : i ≡ place_from e p.running) (is : standing ≡ (get_or (vms_of standings words) i fresh).standing)
-    (row : n ≡ row_from e p.clock.started g.count p.running standing g.room p.queue.len) where
+module _ (g : Config) (standings words : List ℕ) (p : Stand) (e : Event) (i n : ℕ) (ready : Bool) (m : Moved)
+    (at : i ≡ place_from e p.running) (is : ready ≡ is_ready (get_or (vms_of standings words) i fresh))
+    (row : n ≡ row_from e p.clock.started g.count p.running ready g.room p.queue.len) where
   row_here : n ≡ row_of (core_of g standings words p) e
   row_here = row ∙ rw (is, at) (row_is (core_of g standings words p) e)
 
@@ -92,8 +92,6 @@ about_other (Call s n a) h = (refl, refl, refl)
 about_other (Write o x) h = (refl, refl, refl)
 about_other (Fault k d) h = (refl, refl, refl)
 about_other (Copy p w) h = absurd (let z : ◌≡◌ {A = ℕ} 0 1 = cc in omega arith)
-about_other (Pause v) h = (refl, refl, refl)
-about_other (Resume v) h = (refl, refl, refl)
 
 pub change_does : (g : Config) (standings words standings' words' : List ℕ) (p : Stand) (e : Event) (m : Moved) (i n h : ℕ) (v : Vm) (d : Change)
     → about_vm e ≡ true → i ≡ place_from e p.running → v ≡ get_or (vms_of standings words) i fresh → n ≡ get_or g.entries i 0 → h ≡ get_or g.handlers i 0
@@ -168,20 +166,16 @@ tick_config : (g : Config) (standings words : List ℕ) (p : Stand) (at : ℕ) �
 unfolding done
 tick_config g standings words p at = refl
 
--- who is ready, by the standings
-ready_is : (l : List Vm) (standings : List ℕ) → standings ≡ standings_of l → ready_in standings ≡ ready_among l
-ready_is l standings e = ap ready_in e ∙ fun_ext (λ v. ap stands_ready (get_or-map (λ (x : Vm). x.standing) l v fresh))
-
-pub tick_does : (g : Config) (standings words saved aged standings' words' : List ℕ) (p : Stand) (m : Moved) (at owner who h : ℕ) (k : Clock) (s : Served) (standing : ℕ) (vm : Vm) (d : Change) → length standings ≡ 8
+pub tick_does : (g : Config) (standings words saved aged standings' words' : List ℕ) (p : Stand) (m : Moved) (at owner who h : ℕ) (k : Clock) (s : Served) (b : Bool) (vm : Vm) (d : Change)
     → vms_of standings saved ≡ saving p.running at (vms_of standings words) → vms_of standings aged ≡ aged_all g.count (vms_of standings saved)
     → k ≡ next_clock g.slots g.durations p.clock → owner ≡ get_or g.owners k.slot 0
-    → s ≡ served (eqb owner nobody) (ready_in standings) p.queue → standing ≡ (get_or (vms_of standings aged) owner fresh).standing
-    → who ≡ pick (is_spare owner) s.vm (pick (ltb owner 8) (pick (stands_ready standing) owner nobody) nobody)
+    → s ≡ served (eqb owner nobody) p.queue → b ≡ is_ready (get_or (vms_of standings aged) owner fresh)
+    → who ≡ pick (is_spare owner) s.vm (pick (ltb owner 8) (pick b owner nobody) nobody)
     → vm ≡ get_or (vms_of standings aged) who fresh → h ≡ get_or g.handlers who 0
     → d ≡ ticking_from s.queue who vm k.left h
     → Settles standings aged standings' words' k who d m → Does g standings words standings' words' p (Tick at) m
-tick_does g standings words saved aged standings' words' p m at owner who h k s standing vm d long hl hm hk ho hs hb hwho hvm hh hd w =
-    record { same = here ∙ whole (done (core_of g standings words p) (Tick at)) g _ (tick_config g standings words p at) (tick_law (core_of g standings words p) at owner k s t hk ho ready turned) }
+tick_does g standings words saved aged standings' words' p m at owner who h k s b vm d hl hm hk ho hs hb hwho hvm hh hd w =
+    record { same = here ∙ whole (done (core_of g standings words p) (Tick at)) g _ (tick_config g standings words p at) (tick_law (core_of g standings words p) at owner k s t hk ho hs turned) }
   where
     x : ℕ
     x = (get_or (vms_of standings' words') who fresh).address
@@ -192,11 +186,8 @@ tick_does g standings words saved aged standings' words' p m at owner who h k s 
     runs : d.running ≡ who
     runs = ap (λ (y : Change). y.running) hd
 
-    ready : s ≡ served (eqb owner nobody) (ready_among (vms_of standings words)) p.queue
-    ready = rw (ready_is (vms_of standings words) standings (standings_of standings words long)) at hs
-
     turned : t ≡ turn p.running at g.count owner s.vm k.left g.handlers (vms_of standings words)
-    turned = turn_total p.running at g.count owner s.vm k.left who x h g.handlers (vms_of standings words) (vms_of standings saved) (vms_of standings aged) (vms_of standings' words') (stands_ready standing) vm d s.queue (eight standings aged) hl hm (ap stands_ready hb) hwho hvm hh hd w.records refl
+    turned = turn_total p.running at g.count owner s.vm k.left who x h g.handlers (vms_of standings words) (vms_of standings saved) (vms_of standings aged) (vms_of standings' words') b vm d s.queue (eight standings aged) hl hm hb hwho hvm hh hd w.records refl
 
     here : left_by g standings' words' m ≡ record { core = record { config = g; clock = k; running = t.who; queue = s.queue; vms = t.vms }; answer = record { refusal = 0; running = t.who; address = t.address; delivered = t.number; notice = no_notice; result = 0; removed = 0 } }
     here = rw (w.moved, runs) (rw hd)
@@ -225,19 +216,17 @@ pub step_is : {g : Config} {k : Counts} {standings words standings' words' : Lis
     → Moves (config_of k g.owners g.durations g.entries g.handlers g.regions) standings words standings' words' p e m → left_by g standings' words' m ≡ inner_of (core_of g standings words p) e
 step_is {g} h w = rw h at w.same
 
--- the arm of the nine events about a VM that are no Copy
-pub from_two : (n : ℕ) → (n ≡ 2) ⊎ ((n ≡ 3) ⊎ ((n ≡ 4) ⊎ ((n ≡ 5) ⊎ ((n ≡ 6) ⊎ ((n ≡ 7) ⊎ ((n ≡ 8) ⊎ ((n ≡ 10) ⊎ (n ≡ 11)))))))) → (2 ≤ n) × (n ≢ 9)
-from_two n (inl h) = (omega arith, λ e. omega arith)
-from_two n (inr (inl h)) = (omega arith, λ e. omega arith)
-from_two n (inr (inr (inl h))) = (omega arith, λ e. omega arith)
-from_two n (inr (inr (inr (inl h)))) = (omega arith, λ e. omega arith)
-from_two n (inr (inr (inr (inr (inl h))))) = (omega arith, λ e. omega arith)
-from_two n (inr (inr (inr (inr (inr (inl h)))))) = (omega arith, λ e. omega arith)
-from_two n (inr (inr (inr (inr (inr (inr (inl h))))))) = (omega arith, λ e. omega arith)
-from_two n (inr (inr (inr (inr (inr (inr (inr (inl h)))))))) = (omega arith, λ e. omega arith)
-from_two n (inr (inr (inr (inr (inr (inr (inr (inr h)))))))) = (omega arith, λ e. omega arith)
+-- the arm of the seven events about a VM that are no Copy
+pub from_two : (n : ℕ) → (n ≡ 2) ⊎ ((n ≡ 3) ⊎ ((n ≡ 4) ⊎ ((n ≡ 5) ⊎ ((n ≡ 6) ⊎ ((n ≡ 7) ⊎ (n ≡ 8)))))) → (2 ≤ n) × (n ≤ 8)
+from_two n (inl h) = (omega arith, omega arith)
+from_two n (inr (inl h)) = (omega arith, omega arith)
+from_two n (inr (inr (inl h))) = (omega arith, omega arith)
+from_two n (inr (inr (inr (inl h)))) = (omega arith, omega arith)
+from_two n (inr (inr (inr (inr (inl h))))) = (omega arith, omega arith)
+from_two n (inr (inr (inr (inr (inr (inl h)))))) = (omega arith, omega arith)
+from_two n (inr (inr (inr (inr (inr (inr h)))))) = (omega arith, omega arith)
 
-pub about_tag : (e : Event) → (2 ≤ tag_of the_type e) × (tag_of the_type e ≢ 9) → about_vm e ≡ true
+pub about_tag : (e : Event) → (2 ≤ tag_of the_type e) × (tag_of the_type e ≤ 8) → about_vm e ≡ true
 about_tag Start h = absurd (omega (arith, h.0))
 about_tag (Tick a) h = absurd (omega (arith, h.0))
 about_tag (Stop v) h = refl
@@ -247,6 +236,4 @@ about_tag (Extra v) h = refl
 about_tag (Call s n a) h = refl
 about_tag (Write o x) h = refl
 about_tag (Fault k d) h = refl
-about_tag (Copy p w) h = absurd (h.1 refl)
-about_tag (Pause v) h = refl
-about_tag (Resume v) h = refl
+about_tag (Copy p w) h = absurd (omega (arith, h.1))

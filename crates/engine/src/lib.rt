@@ -10,7 +10,6 @@ use basis::places;
 use change::{Answer, Change};
 use config::Config;
 use event::Event;
-use guest::Vm;
 use queue::Queue;
 use regions::Regions;
 use rig_core::Core;
@@ -85,16 +84,8 @@ pub fn step(
     let clock = p.clock;
     let q = p.queue;
     let i = logic::place_of(e, p.running);
-    let standing = bank::standing_at(standings, words, i);
-    let n = logic::row_of(
-        e,
-        clock.started,
-        g.count,
-        p.running,
-        standing,
-        g.room,
-        q.len,
-    );
+    let ready = bank::ready_at(standings, words, i);
+    let n = logic::row_of(e, clock.started, g.count, p.running, ready, g.room, q.len);
     if n != 0 {
         return refusing(standings, words, p, n);
     }
@@ -125,10 +116,9 @@ fn tick(
     bank::age_all(standings, words, g.count);
     let clock = p.clock.next(g.slots, durations);
     let owner = table::owner_at(clock.slot, owners);
-    let served = q.served(owner == Config::SPARE, standings);
+    let served = q.served(owner == Config::SPARE);
     let rest = served.queue;
-    let standing = bank::standing_at(standings, words, owner);
-    let who = vms::runner(owner, served.vm, standing == Vm::READY);
+    let who = vms::runner(owner, served.vm, bank::ready_at(standings, words, owner));
     let vm = bank::vm_at(standings, words, who);
     let d = Change::ticking(
         who,

@@ -1,10 +1,10 @@
 -- No second answer fits (C2): each public function.
 use Rattle.std.proofs.Common.{sym, ◌∙◌}
 use Rattle.basis.proofs.Unique.{OneAnswer}
-use Rattle.guest.proofs.Vm.alive.Kinds as alive-kinds
-use Rattle.guest.proofs.Vm.alive.Reads as alive-reads
 use Rattle.guest.proofs.Vm.delivered.Kinds as delivered-kinds
 use Rattle.guest.proofs.Vm.delivered.Reads as delivered-reads
+use Rattle.guest.proofs.Vm.ended.Kinds as ended-kinds
+use Rattle.guest.proofs.Vm.ended.Reads as ended-reads
 use Rattle.guest.proofs.Vm.entered.Kinds as entered-kinds
 use Rattle.guest.proofs.Vm.entered.Reads as entered-reads
 use Rattle.guest.proofs.Vm.entered_if.Kinds as entered-if-kinds
@@ -33,8 +33,6 @@ use Rattle.guest.proofs.Vm.saved_if.Kinds as saved-if-kinds
 use Rattle.guest.proofs.Vm.saved_if.Reads as saved-if-reads
 use Rattle.guest.proofs.Vm.started.Kinds as started-kinds
 use Rattle.guest.proofs.Vm.started.Reads as started-reads
-use Rattle.guest.proofs.Vm.with_standing.Kinds as with-standing-kinds
-use Rattle.guest.proofs.Vm.with_standing.Reads as with-standing-reads
 use Rattle.guest.proofs.Vm.written.Kinds as written-kinds
 use Rattle.guest.proofs.Vm.written.Reads as written-reads
 
@@ -46,9 +44,6 @@ guest_started_one κs a x y s t p q = p ∙ sym q
 
 pub guest_is_ready_one : OneAnswer 0 is-ready-kinds.ps is-ready-kinds.r is-ready-reads.Post
 guest_is_ready_one κs a x y s t p q = p ∙ sym q
-
-pub guest_alive_one : OneAnswer 0 alive-kinds.ps alive-kinds.r alive-reads.Post
-guest_alive_one κs a x y s t p q = p ∙ sym q
 
 pub guest_is_fresh_one : OneAnswer 0 is-fresh-kinds.ps is-fresh-kinds.r is-fresh-reads.Post
 guest_is_fresh_one κs a x y s t p q = p ∙ sym q
@@ -62,8 +57,8 @@ guest_saved_if_one κs a x y s t p q = p ∙ sym q
 pub guest_older_if_one : OneAnswer 0 older-if-kinds.ps older-if-kinds.r older-if-reads.Post
 guest_older_if_one κs a x y s t p q = p ∙ sym q
 
-pub guest_with_standing_one : OneAnswer 0 with-standing-kinds.ps with-standing-kinds.r with-standing-reads.Post
-guest_with_standing_one κs a x y s t p q = p ∙ sym q
+pub guest_ended_one : OneAnswer 0 ended-kinds.ps ended-kinds.r ended-reads.Post
+guest_ended_one κs a x y s t p q = p ∙ sym q
 
 pub guest_pended_one : OneAnswer 0 pended-kinds.ps pended-kinds.r pended-reads.Post
 guest_pended_one κs a x y s t p q = p ∙ sym q

@@ -1,6 +1,6 @@
 -- A VM record, and what the rules change in it, one part at a time.
-use Rattle.std.specs.Prelude.{ℕ, ◌+◌, ◌%◌, ◌^◌, Bool, List, ◌==◌, nat_le, slice_index_or}
-use Rattle.basis.specs.Choice.{both, either, pick}
+use Rattle.std.specs.Prelude.{ℕ, ◌+◌, ◌%◌, ◌^◌, Bool, ◌==◌, nat_le}
+use Rattle.basis.specs.Choice.{both, pick}
 use Rattle.guest.specs.Bits.{set_bit}
 use Rattle.guest.specs.declared.Status.{Status}
 use Rattle.guest.specs.declared.Vm.{Vm}
@@ -21,27 +21,9 @@ down_standing = 3
 abbrev pub error_standing : ℕ
 error_standing = 4
 
-abbrev pub paused_standing : ℕ
-paused_standing = 5
-
 -- W12: no number over it is a standing
 abbrev pub last_standing : ℕ
-last_standing = paused_standing
-
--- T3: by the number
-abbrev pub stands_ready : ℕ → Bool
-stands_ready standing = standing == ready_standing
-
-abbrev pub stands_paused : ℕ → Bool
-stands_paused standing = standing == paused_standing
-
--- W4, W10: ready or paused
-abbrev pub stands_alive : ℕ → Bool
-stands_alive standing = either (stands_ready standing) (stands_paused standing)
-
--- VM v is ready, by the list of the standings; there is none past the last
-abbrev pub ready_in : List ℕ → ℕ → Bool
-ready_in standings v = stands_ready (slice_index_or standings v no_standing)
+last_standing = error_standing
 
 abbrev pub blank : Status
 blank = record { since = 0; left = 0; enabled = 0; pending = 0; resume = 0; reason = 0; previous = 0; restore = 0; ontick = 0; running = 0 }
@@ -56,10 +38,7 @@ started_at entry = record { standing = ready_standing; address = entry; status =
 
 -- T3
 abbrev pub is_ready : Vm → Bool
-is_ready v = stands_ready v.standing
-
-abbrev pub is_alive : Vm → Bool
-is_alive v = stands_alive v.standing
+is_ready v = v.standing == ready_standing
 
 -- W12, of one record
 abbrev pub standing_known : Vm → Bool
@@ -95,9 +74,9 @@ saved_at at v = record { standing = v.standing; address = at; status = v.status;
 abbrev pub older : Vm → Vm
 older v = record { standing = v.standing; address = v.address; status = v.status; age = (v.age + 1) % 2 ^ 32; ran = v.ran }
 
--- D14, D16, D38, D41: the standing, and nothing else
-abbrev pub with_standing : ℕ → Vm → Vm
-with_standing standing v = record { standing = standing; address = v.address; status = v.status; age = v.age; ran = v.ran }
+-- D14, D16: the standing, and nothing else
+abbrev pub ended_as : ℕ → Vm → Vm
+ended_as standing v = record { standing = standing; address = v.address; status = v.status; age = v.age; ran = v.ran }
 
 abbrev pub with_status : Vm → Status → Vm
 with_status v s = record { standing = v.standing; address = v.address; status = s; age = v.age; ran = v.ran }

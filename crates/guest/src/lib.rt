@@ -5,10 +5,10 @@ mod bits;
 ghost use Rattle.std.specs.Prelude.{◌≡◌, ◌<◌};
 ghost use Rattle.basis.specs.Choice.{pick};
 ghost use Rattle.guest.specs.Deliver.{back_from, deliver, enter, interrupt, quiet, shown};
-ghost use Rattle.guest.specs.Record.{blank, fresh, is_fresh, is_ready, older, pend, saved_at, stands_alive, started_at, with_standing};
+ghost use Rattle.guest.specs.Record.{blank, ended_as, fresh, is_fresh, is_ready, older, pend, saved_at, started_at};
 ghost use Rattle.guest.specs.Write.{is_field, stored, write};
 
-use basis::tests::{both, either};
+use basis::tests::both;
 
 // A pseudo-interrupt's number, 0 among them, or none (A3).
 #[derive(Clone, Copy)]
@@ -37,7 +37,7 @@ pub struct Status {
 #[repr(C)]
 #[derive(Clone, Copy)]
 pub struct Vm {
-    pub standing: u8, // NONE, or one of the five of T3
+    pub standing: u8, // NONE, or one of the four of T3
     pub address: u32, // where the VM goes on when it next runs
     pub status: Status,
     pub age: u32, // ticks since its last start (T4)
@@ -63,10 +63,8 @@ impl Vm {
 
     pub const ERROR: u8 = 4;
 
-    pub const PAUSED: u8 = 5;
-
     // No number over it is a standing (W12).
-    pub const LAST: u8 = 5;
+    pub const LAST: u8 = 4;
 
     // The pseudo-interrupt that Shutdown makes pending (D17).
     pub const SHUTDOWN: u8 = 11;
@@ -102,13 +100,6 @@ impl Vm {
         ensures { result ≡ is_ready self }
     {
         self.standing == Vm::READY
-    }
-
-    // Whether a standing is that of a VM that is ready or paused.
-    pub fn alive(standing: u8) -> bool
-        ensures { result ≡ stands_alive standing }
-    {
-        either(standing == Vm::READY, standing == Vm::PAUSED)
     }
 
     // W2, of one record: its numbers joined as bits, in the reverse of the definition's order.
@@ -152,9 +143,9 @@ impl Vm {
         v
     }
 
-    // D14, D16, D38, D41: another standing, and nothing else.
-    pub fn with_standing(self, standing: u8) -> Vm
-        ensures { result ≡ with_standing standing self }
+    // D14, D16.
+    pub fn ended(self, standing: u8) -> Vm
+        ensures { result ≡ ended_as standing self }
     {
         let mut v = self;
         v.standing = standing;

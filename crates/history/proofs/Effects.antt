@@ -2,20 +2,20 @@
 use Prim.Native.Nat.{suc, zero, ℕ}
 use borrow.Author.Tests.{lt-leb, ne_eqb}
 use lib.Dec.{eqb, leb}
-use mathlib.Core.Bool.{Bool, false, true}
-use mathlib.Core.Path.{refl, sym, ◌≡◌}
+use mathlib.Core.Bool.{Bool, false, not, true}
+use mathlib.Core.Path.{refl, ◌≡◌}
 use native.Mathlib.Omega.{arith}
 use Rattle.basis.specs.Choice.{both, either, pick}
 use Rattle.basis.specs.Nobody.{nobody}
 use Rattle.config.specs.Sizes.{is_spare}
 use Rattle.config.specs.declared.Config.{Config}
 use Rattle.event.specs.Kinds.{is_restart, is_tick}
-use Rattle.event.specs.declared.Event.TheVariants.{Call, Copy, Extra, Fault, Pause, Restart, Resume, Shutdown, Start, Stop, Tick, Write}
+use Rattle.event.specs.declared.Event.TheVariants.{Call, Copy, Extra, Fault, Restart, Shutdown, Start, Stop, Tick, Write}
 use Rattle.event.specs.declared.Event.{Event}
 use Rattle.history.specs.History.{Moment, went}
 use Rattle.history.specs.Moments.{asks, is_request, naming, spare, tells_error}
 use Rattle.history.specs.Queueing.{Add, Effect, Keep, Remove, Take, effect, effect_by, is_remove, of_service, removes}
-use Rattle.history.specs.Telling.{ended_by, ends, is_end, standing_by_call}
+use Rattle.history.specs.Telling.{ended_by, ends, standing_by_call}
 use Rattle.table.specs.Place.{table_at}
 
 abbrev pub is_take : Effect → Bool
@@ -83,8 +83,6 @@ module _ (g : Config) (m : Moment) where
       go true (Write o x) = refl
       go true (Fault k x) = refl
       go true (Copy p w) = copied (tells_error m.answer)
-      go true (Pause w) = refl
-      go true (Resume w) = refl
 
   -- only an accepted request adds one
   pub asks-is : (v : ℕ) → asks v m ≡ is_add v (effect g m)
@@ -121,8 +119,6 @@ module _ (g : Config) (m : Moment) where
       go true (Write o x) = refl
       go true (Fault k x) = refl
       go true (Copy p w) = copied (tells_error m.answer)
-      go true (Pause w) = refl
-      go true (Resume w) = refl
 
   -- the entries of a VM leave where it ends or is restarted, and nowhere else
   pub removes-is : (v : ℕ) → removes g v m ≡ ends v m
@@ -133,25 +129,21 @@ module _ (g : Config) (m : Moment) where
       tick true = refl
       tick false = refl
 
-      -- an end makes the standing another than 1 and 5
-      ended : (t : ℕ) (b : Bool) → is_end t ≡ true → b ≡ is_end (pick b t 1)
-      ended t true h = sym h
+      -- an end makes the standing another than 1
+      ended : (t : ℕ) (b : Bool) → eqb t 1 ≡ false → b ≡ not (eqb (pick b t 1) 1)
+      ended t true h = rw h
       ended t false h = refl
 
-      stays : (b : Bool) → false ≡ is_end (pick b 1 1)
+      stays : (b : Bool) → false ≡ not (eqb (pick b 1 1) 1)
       stays true = refl
       stays false = refl
 
-      paused : (b : Bool) → false ≡ is_end (pick b 5 1)
-      paused true = refl
-      paused false = refl
-
-      restarted : (b : Bool) → b ≡ either b (is_end (pick b 1 1))
+      restarted : (b : Bool) → b ≡ either b (not (eqb (pick b 1 1) 1))
       restarted true = refl
       restarted false = refl
 
       Called : ℕ → ℕ → Effect → Type 0
-      Called n s f = is_remove v f ≡ is_end (pick (eqb m.before.running v) (standing_by_call s n 1) 1)
+      Called n s f = is_remove v f ≡ not (eqb (pick (eqb m.before.running v) (standing_by_call s n 1) 1) 1)
 
       two : (n : ℕ) (b : Bool) → leb n 31 ≡ b → Called n 2 (pick b Keep (Remove m.before.running))
       two n true e = rw e (stays (eqb m.before.running v))
@@ -167,7 +159,7 @@ module _ (g : Config) (m : Moment) where
           (ne_eqb (suc (suc (suc (suc (suc s))))) 2 (λ e. omega arith), ne_eqb (suc (suc (suc (suc (suc s))))) 3 (λ e. omega arith), lt-leb (suc (suc (suc (suc (suc s))))) 4 (omega arith))
           (ended 4 (eqb m.before.running v) refl)
 
-      copied : (b : Bool) → is_remove v (pick b (Remove m.before.running) Keep) ≡ is_end (pick (both b (eqb m.before.running v)) 4 1)
+      copied : (b : Bool) → is_remove v (pick b (Remove m.before.running) Keep) ≡ not (eqb (pick (both b (eqb m.before.running v)) 4 1) 1)
       copied true = ended 4 (eqb m.before.running v) refl
       copied false = refl
 
@@ -185,5 +177,3 @@ module _ (g : Config) (m : Moment) where
       go true (Write o x) = refl
       go true (Fault k x) = ended 4 (eqb m.before.running v) refl
       go true (Copy p w) = copied (tells_error m.answer)
-      go true (Pause w) = paused (eqb w v)
-      go true (Resume w) = stays (eqb w v)

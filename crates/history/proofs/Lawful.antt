@@ -14,29 +14,28 @@ use Rattle.config.specs.declared.Config.{Config}
 use Rattle.rig_core.specs.Changes.{changed_by}
 use Rattle.rig_core.specs.Events.{done, failure_of, start_core, step_of, tick_clock, tick_owner, tick_queue, tick_turn}
 use Rattle.rig_core.specs.Refusals.{refused, row_of}
-use Rattle.rig_core.specs.State.{full, ready_at, vm_at}
+use Rattle.rig_core.specs.State.{full, vm_at}
 use Rattle.rig_core.specs.declared.Core.{Core}
 use Rattle.rig_core.specs.declared.Stepped.{Stepped}
 use Rattle.core_laws.proofs.View.{call-case, copy_case, row_extra, step_case}
-use Rattle.event.specs.declared.Event.TheVariants.{Call, Copy, Extra, Fault, Pause, Restart, Resume, Shutdown, Start, Stop, Tick, Write}
+use Rattle.event.specs.declared.Event.TheVariants.{Call, Copy, Extra, Fault, Restart, Shutdown, Start, Stop, Tick, Write}
 use Rattle.event.specs.declared.Event.{Event}
 use Rattle.guest.specs.Record.{saved_at}
 use Rattle.history.proofs.Steps.{Reached, tick-owner}
 use Rattle.history.specs.History.{Moment, moment, moment_of, ticking}
 use Rattle.history.specs.Queueing.{affected, effect, removed_from}
-use Rattle.queue.proofs.Meaning.{entries_pushed, entries_without}
-use Rattle.queue.proofs.Middle.{entries-taken}
-use Rattle.queue.specs.Entries.{entries, first_of, others}
+use Rattle.queue.proofs.Meaning.{entries_popped, entries_pushed, entries_without}
+use Rattle.queue.specs.Entries.{entries, front_of, others}
 use Rattle.table.specs.Place.{table_at}
 use Rattle.vms.proofs.Records.{turn-who}
 use Rattle.vms.specs.Tick.{runner_of}
 
 -- D6, D7, by the state before the tick
 abbrev pub runner_by : Core → ℕ → ℕ
-runner_by c owner = runner_of owner (first_of (ready_at c) (entries c.queue)) c.vms
+runner_by c owner = runner_of owner (front_of (entries c.queue)) c.vms
 
 pub record Lawful (g : Config) (m : Moment) : Type 0 where
-  pub queue : entries m.after.queue ≡ affected (ready_at m.before) (effect g m) (entries m.before.queue)
+  pub queue : entries m.after.queue ≡ affected (effect g m) (entries m.before.queue)
   pub ran : ticking m ≡ true → m.answer.running ≡ runner_by m.before (table_at g m.ticks)
   pub removed : m.answer.removed ≡ removed_from (effect g m) (entries m.before.queue)
 
@@ -56,10 +55,10 @@ module _ (g : Config) (d : Given g) (k : ℕ) (c : Core) (p : Reached g k c) whe
   tick_law at = go (is_spare (table_at g k)) refl (tick-owner g d k c p)
     where
       who : tick_owner c ≡ table_at g k → (tick_turn c at).who ≡ runner_by c (table_at g k)
-      who e = turn-who c.running at c.config.count (tick_owner c) (first_of (ready_at c) (entries c.queue)) (tick_clock c).left c.config.handlers c.vms ∙ ap (λ (o : ℕ). runner_by c o) e
+      who e = turn-who c.running at c.config.count (tick_owner c) (front_of (entries c.queue)) (tick_clock c).left c.config.handlers c.vms ∙ ap (λ (o : ℕ). runner_by c o) e
 
       go : (b : Bool) → is_spare (table_at g k) ≡ b → tick_owner c ≡ table_at g k → Lawful g (moment_of k c (Tick at) (done c (Tick at)))
-      go true q e = record { queue = rw (e, q) (entries-taken (ready_at c) c.queue); ran = λ z. who e; removed = rw q }
+      go true q e = record { queue = rw (e, q) (entries_popped c.queue); ran = λ z. who e; removed = rw q }
       go false q e = record { queue = rw (e, q); ran = λ z. who e; removed = rw q }
 
   -- a Call, by its service
@@ -103,8 +102,6 @@ module _ (g : Config) (d : Given g) (k : ℕ) (c : Core) (p : Reached g k c) whe
       copy_case (λ (x : Change). Lawful g (moment_of k c (Copy q w) (changed_by c x))) c.running c.queue c.running (saved_at q.next (vm_at c c.running)) (failure_of c w q).code (failure_of c w q).detail
       (λ h. record { queue = refl; ran = λ z. false_true z; removed = refl })
       (λ h. record { queue = entries_without c.running c.queue; ran = λ z. false_true z; removed = refl })
-  done_law (Pause v) r = record { queue = refl; ran = λ z. false_true z; removed = refl }
-  done_law (Resume v) r = record { queue = refl; ran = λ z. false_true z; removed = refl }
 
   pub lawful : (e : Event) → Lawful g (moment step_of k c e)
   lawful e = step_case c e (λ (s : Stepped). Lawful g (moment_of k c e s)) (λ n q h. refused_law e n h) (λ s r. done_law e r)

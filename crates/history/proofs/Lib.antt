@@ -2,6 +2,5 @@ pub mod Counts
 pub mod Effects
 pub mod More
 pub mod Steps
-pub mod Scenes
 pub mod Lawful
 pub mod Ticking

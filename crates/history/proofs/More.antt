@@ -28,23 +28,18 @@ unfolding told
 told_more f a [] m = refl
 told_more f a (x ∷ ms) m = told_more f (f x a) ms m
 
--- what is told, and the state that it is told of
+-- a part of the state that goes by moments
 module _ (b : Behaviour) (Inv : ℕ → Core → Type 0) (keeps : (k : ℕ) (c : Core) → Inv k c → (e : Event) → Inv (ticks_after (moment b k c e)) (b c e).core)
-    (A : Type 0) (Of : A → Core → Type 0) (step : Moment → A → A) (law : (k : ℕ) (c : Core) → Inv k c → (a : A) → Of a c → (e : Event) → Of (step (moment b k c e) a) (b c e).core) where
-  pub of-told : (es : List Event) (k : ℕ) (c : Core) (a : A) → Inv k c → Of a c → Of (told step a (moments b k c es)) (state_after b c es)
+    (A : Type 0) (part : Core → A) (step : Moment → A → A) (law : (k : ℕ) (c : Core) → Inv k c → (e : Event) → part (b c e).core ≡ step (moment b k c e) (part c)) where
+  -- is what the history tells
+  pub part-told : (es : List Event) (k : ℕ) (c : Core) (a : A) → Inv k c → part c ≡ a → part (state_after b c es) ≡ told step a (moments b k c es)
   unfolding state_after told moments
-  of-told [] k c a i h = h
-  of-told (e ∷ es) k c a i h = of-told es _ (b c e).core (step (moment b k c e) a) (keeps k c i e) (law k c i a h e)
+  part-told [] k c a i h = h
+  part-told (e ∷ es) k c a i h = part-told es _ (b c e).core (step (moment b k c e) a) (keeps k c i e) (law k c i e ∙ ap (step (moment b k c e)) h)
 
-  -- what holds at each moment of what is told of the state before it
-  pub each-of-told : (P : A → Moment → Type 0) → ((k : ℕ) (c : Core) → Inv k c → (a : A) → Of a c → (e : Event) → P a (moment b k c e))
-      → (es : List Event) (k : ℕ) (c : Core) (a : A) → Inv k c → Of a c → EachTold step P a (moments b k c es)
+  -- and what holds of it at each moment holds of what is told
+  pub each-told : (P : A → Moment → Type 0) → ((k : ℕ) (c : Core) → Inv k c → (e : Event) → P (part c) (moment b k c e))
+      → (es : List Event) (k : ℕ) (c : Core) → Inv k c → EachTold step P (part c) (moments b k c es)
   unfolding moments
-  each-of-told P f [] k c a i h = tt
-  each-of-told P f (e ∷ es) k c a i h = (f k c i a h e, each-of-told P f es _ _ _ (keeps k c i e) (law k c i a h e))
-
--- a part of the state that goes by moments is what the history tells
-pub part_told : (b : Behaviour) (Inv : ℕ → Core → Type 0) → ((k : ℕ) (c : Core) → Inv k c → (e : Event) → Inv (ticks_after (moment b k c e)) (b c e).core)
-    → (A : Type 0) (part : Core → A) (step : Moment → A → A) → ((k : ℕ) (c : Core) → Inv k c → (e : Event) → part (b c e).core ≡ step (moment b k c e) (part c))
-    → (es : List Event) (k : ℕ) (c : Core) (a : A) → Inv k c → part c ≡ a → part (state_after b c es) ≡ told step a (moments b k c es)
-part_told b Inv keeps A part step law = of-told b Inv keeps A (λ a c. part c ≡ a) step (λ k c i a h e. law k c i e ∙ ap (step (moment b k c e)) h)
+  each-told P f [] k c i = tt
+  each-told P f (e ∷ es) k c i = (f k c i e, rw (← law k c i e) (each-told P f es _ _ (keeps k c i e)))

@@ -12,13 +12,10 @@ use Rattle.config.specs.Sizes.{owner_at}
 use Rattle.config.specs.declared.Config.{Config}
 use Rattle.rig_core.specs.Events.{done, step_of, tick_clock, tick_owner}
 use Rattle.rig_core.specs.Refusals.{refused}
-use Rattle.rig_core.specs.Sound.{Sound}
 use Rattle.rig_core.specs.State.{Shaped, fresh_core}
 use Rattle.rig_core.specs.declared.Core.{Core}
 use Rattle.rig_core.specs.declared.Stepped.{Stepped}
-use Rattle.core_laws.proofs.Events.{step_facts}
-use Rattle.core_laws.proofs.Fresh.{fresh_facts}
-use Rattle.core_laws.proofs.Kept.{done_place, shaped_fresh, shaped_step, step_config}
+use Rattle.core_laws.proofs.Kept.{done_config, done_place, shaped_done, shaped_fresh}
 use Rattle.core_laws.proofs.Refused.{done_number}
 use Rattle.core_laws.proofs.View.{done_case, step_case}
 use Rattle.event.specs.Kinds.{is_tick}
@@ -32,14 +29,13 @@ use Rattle.table.specs.Position.{next_clock}
 pub record Reached (g : Config) (k : ℕ) (c : Core) : Type 0 where
   pub same : c.config ≡ g
   pub shaped : Shaped c
-  pub facts : Sound c
   pub stands : Stands g k c.clock
 
 pub vm_small : (g : Config) → Given g → (v : ℕ) → v < g.count → v < 8
 vm_small g d v h = omega (arith, h, (legal_is g d.legal).vms.1)
 
 pub at_fresh : (g : Config) → Given g → Reached g 0 (fresh_core g)
-at_fresh g d = record { same = refl; shaped = shaped_fresh g d.sized; facts = fresh_facts g (legal_is g d.legal); stands = refl }
+at_fresh g d = record { same = refl; shaped = shaped_fresh g d.sized; stands = refl }
 
 module _ (g : Config) (d : Given g) (k : ℕ) (c : Core) (p : Reached g k c) where
   -- where a tick takes the clock
@@ -60,12 +56,16 @@ module _ (g : Config) (d : Given g) (k : ℕ) (c : Core) (p : Reached g k c) whe
       (λ at. rw (add-one k) tick-placed)
       (λ e d i j. rw i p.stands)
 
-  stands_step : (e : Event) → Stands g (ticks_after (moment step_of k c e)) (step_of c e).core.clock
-  unfolding refused
-  stands_step e = step_case c e (λ (s : Stepped). Stands g (ticks_after (moment_of k c e s)) s.core.clock) (λ n q h. rw (ne_eqb n 0 h) p.stands) (λ s r. rw (done_number c e) (stands_done e))
-
   pub step-at : (e : Event) → Reached g (ticks_after (moment step_of k c e)) (step_of c e).core
-  step-at e = record { same = step_config c e ∙ p.same; shaped = shaped_step c e p.shaped; facts = step_facts c e p.shaped p.facts; stands = stands_step e }
+  unfolding refused
+  step-at e =
+      step_case c e (λ (s : Stepped). Reached g (ticks_after (moment_of k c e s)) s.core)
+      (λ n q h. rw (ne_eqb n 0 h) p)
+      (λ s r. record {
+        same = done_config c e ∙ p.same;
+        shaped = shaped_done c p.shaped e;
+        stands = rw (done_number c e) (stands_done e);
+      })
 
 -- a run of any behaviour that keeps an invariant
 module _ (b : Behaviour) (Inv : ℕ → Core → Type 0) (keeps : (k : ℕ) (c : Core) → Inv k c → (e : Event) → Inv (ticks_after (moment b k c e)) (b c e).core) where

@@ -1,7 +1,8 @@
--- What one lawful moment says of a VM: whom a tick runs, and whose entry a spare tick takes.
+-- What one lawful moment says of a VM: whom a tick runs, and what a spare tick takes out of the queue.
 use Prim.Native.Nat.{ℕ, ◌<◌}
 use borrow.Author.Tests.{eq-eqb, eqb-true, ne_eqb}
 use mathlib.Core.Bool.{Bool, false, true}
+use mathlib.Core.List.{List, ◌∷◌}
 use mathlib.Core.Path.{ap, refl, sym, ◌∙◌, ◌≡◌}
 use native.Mathlib.Omega.{arith}
 use Rattle.basis.proofs.Laws.{both_left, both_right, false_true}
@@ -11,17 +12,18 @@ use Rattle.config.specs.Sizes.{is_spare}
 use Rattle.config.specs.declared.Config.{Config}
 use Rattle.rig_core.specs.State.{ready_at}
 use Rattle.rig_core.specs.declared.Core.{Core}
-use Rattle.history.proofs.Effects.{asks-is, is_add}
+use Rattle.history.proofs.Effects.{asks-is, is_add, is_take, spare-is}
 use Rattle.history.proofs.Lawful.{Lawful, runner_by}
 use Rattle.history.specs.History.{Moment, ticking}
 use Rattle.history.specs.Moments.{asks, naming, runs, spare}
-use Rattle.history.specs.Queueing.{Add, Effect, Keep, Remove, Take, effect}
-use Rattle.queue.specs.Entries.{entries, first_of}
+use Rattle.history.specs.Queueing.{Add, Effect, Keep, Remove, Take, affected, effect}
+use Rattle.queue.proofs.Counted.{front_rest}
+use Rattle.queue.specs.Entries.{entries, front_of, rest}
 use Rattle.table.specs.Place.{table_at}
 use Rattle.vms.specs.Tick.{runner_of}
 
 -- whom a tick runs
-runner_spare : (c : Core) (o : ℕ) → is_spare o ≡ true → runner_by c o ≡ first_of (ready_at c) (entries c.queue)
+runner_spare : (c : Core) (o : ℕ) → is_spare o ≡ true → runner_by c o ≡ front_of (entries c.queue)
 unfolding runner_of
 runner_spare c o e = rw e
 
@@ -34,12 +36,21 @@ module _ (g : Config) (v : ℕ) (small : v < nobody) (m : Moment) (l : Lawful g 
   unfolding naming
   tick-of w h = (both_left (ticking m) _ h, eqb-true (table_at g m.ticks) w (both_right (ticking m) _ h))
 
-  -- a spare tick runs the VM of the oldest entry whose VM is ready
-  pub spare-first : spare g m ≡ true → m.answer.running ≡ first_of (ready_at m.before) (entries m.before.queue)
-  spare-first h = let t = tick-of nobody h in l.ran t.0 ∙ runner_spare m.before (table_at g m.ticks) (eq-eqb (table_at g m.ticks) nobody t.1)
+  -- a spare tick takes the oldest entry
+  pub spare-takes : spare g m ≡ true → entries m.after.queue ≡ rest (entries m.before.queue)
+  spare-takes h = go (effect g m) (sym (spare-is g m) ∙ h) l.queue
+    where
+      go : (f : Effect) → is_take f ≡ true → entries m.after.queue ≡ affected f (entries m.before.queue) → entries m.after.queue ≡ rest (entries m.before.queue)
+      go Keep k q = false_true k
+      go Take k q = q
+      go (Add w) k q = false_true k
+      go (Remove w) k q = false_true k
 
-  pub handed-first : spare g m ≡ true → runs v m ≡ true → first_of (ready_at m.before) (entries m.before.queue) ≡ v
-  handed-first h r = sym (spare-first h) ∙ eqb-true m.answer.running v r
+  pub spare-front : spare g m ≡ true → m.answer.running ≡ front_of (entries m.before.queue)
+  spare-front h = let t = tick-of nobody h in l.ran t.0 ∙ runner_spare m.before (table_at g m.ticks) (eq-eqb (table_at g m.ticks) nobody t.1)
+
+  pub handed-front : spare g m ≡ true → runs v m ≡ true → front_of (entries m.before.queue) ≡ v
+  handed-front h r = sym (spare-front h) ∙ eqb-true m.answer.running v r
 
   pub named-runs : naming g v m ≡ true → ready_at m.before v ≡ true → runs v m ≡ true
   named-runs h r =
@@ -60,21 +71,10 @@ module _ (g : Config) (v : ℕ) (small : v < nobody) (m : Moment) (l : Lawful g 
       go false e = absurd (not_named (ready_at m.before (table_at g m.ticks)) refl
           (sym (runner_named m.before (table_at g m.ticks) e) ∙ sym (l.ran t) ∙ eqb-true m.answer.running v r))
 
-  -- a tick that the table names for v runs it only where it is ready
-  pub named-ready : naming g v m ≡ true → runs v m ≡ true → ready_at m.before v ≡ true
-  named-ready h r = go (ready_at m.before v) refl
-    where
-      t : (ticking m ≡ true) × (table_at g m.ticks ≡ v)
-      t = tick-of v h
-
-      o : is_spare (table_at g m.ticks) ≡ false
-      o = ne_eqb (table_at g m.ticks) nobody (λ e. omega (arith, t.1))
-
-      go : (b : Bool) → ready_at m.before v ≡ b → b ≡ true
-      go true q = refl
-      go false q =
-          let e : v ≡ nobody = sym (eqb-true m.answer.running v r) ∙ l.ran t.0 ∙ runner_named m.before (table_at g m.ticks) o ∙ rw (t.1, q) in
-          absurd (omega arith)
+  pub handed-law : ticking m ≡ true → runs v m ≡ true → naming g v m ≡ false → (spare g m ≡ true) × (entries m.before.queue ≡ v ∷ entries m.after.queue)
+  handed-law t r n =
+      let s = else-spare t r n in
+      (s, front_rest v (entries m.before.queue) small (handed-front s r) ∙ ap (λ (q : List ℕ). v ∷ q) (sym (spare-takes s)))
 
 -- an accepted request joins the queue
 pub asks_adds : (g : Config) (v : ℕ) (m : Moment) → asks v m ≡ true → effect g m ≡ Add v

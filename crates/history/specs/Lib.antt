@@ -2,4 +2,3 @@ pub mod History
 pub mod Moments
 pub mod Queueing
 pub mod Telling
-pub mod Following

@@ -1,13 +1,13 @@
--- What the rules say that an event does to the queue.
-use Rattle.std.specs.Prelude.{ℕ, ◌+◌, eqb, leb, Bool, false, List, [], ◌++◌, ◌∷◌}
-use Rattle.basis.specs.Choice.{pick}
+-- What the rules say that an event does to the queue, and the queue with one request marked.
+use Rattle.std.specs.Prelude.{ℕ, ◌+◌, eqb, leb, Bool, false, true, List, map, [], ◌++◌, ◌∷◌, ◌≡◌}
+use Rattle.basis.specs.Choice.{both, pick}
 use Rattle.config.specs.Sizes.{is_spare}
 use Rattle.config.specs.declared.Config.{Config}
-use Rattle.event.specs.declared.Event.TheVariants.{Call, Copy, Extra, Fault, Pause, Restart, Resume, Shutdown, Start, Stop, Tick, Write}
+use Rattle.event.specs.declared.Event.TheVariants.{Call, Copy, Extra, Fault, Restart, Shutdown, Start, Stop, Tick, Write}
 use Rattle.event.specs.declared.Event.{Event}
 use Rattle.history.specs.History.{Moment, went}
-use Rattle.history.specs.Moments.{tells_error}
-use Rattle.queue.specs.Entries.{entries_of, others, without_first}
+use Rattle.history.specs.Moments.{runs, spare, tells_error}
+use Rattle.queue.specs.Entries.{entries, entries_of, others, rest}
 use Rattle.table.specs.Place.{table_at}
 
 pub data Effect : Type 0 where
@@ -34,18 +34,16 @@ effect_by g m (Call s n at) = of_service m.before.running s n m.answer.result
 effect_by g m (Write o x) = Keep
 effect_by g m (Fault k d) = Remove m.before.running
 effect_by g m (Copy p w) = pick (tells_error m.answer) (Remove m.before.running) Keep
-effect_by g m (Pause v) = Keep
-effect_by g m (Resume v) = Keep
 
 unfoldable pub effect : Config → Moment → Effect
 effect g m = pick (went m) (effect_by g m m.event) Keep
 
--- the queue's entries after an effect, where `ready` says who was ready before it: a spare tick takes the oldest entry whose VM is (D7)
-abbrev pub affected : (ℕ → Bool) → Effect → List ℕ → List ℕ
-affected ready Keep q = q
-affected ready Take q = without_first ready q
-affected ready (Add w) q = q ++ (w ∷ [])
-affected ready (Remove w) q = others w q
+-- the queue's entries after an effect
+abbrev pub affected : Effect → List ℕ → List ℕ
+affected Keep q = q
+affected Take q = rest q
+affected (Add w) q = q ++ (w ∷ [])
+affected (Remove w) q = others w q
 
 -- A8: how many of these entries an effect removes
 abbrev pub removed_from : Effect → List ℕ → ℕ
@@ -68,3 +66,43 @@ removes g v m = is_remove v (effect g m)
 unfoldable pub removed_in : Config → ℕ → List Moment → ℕ
 removed_in g v [] = 0
 removed_in g v (m ∷ ms) = pick (removes g v m) m.answer.removed 0 + removed_in g v ms
+
+-- an entry of the queue, and whether it is the request that is followed
+pub record Entry : Type 0 where
+  pub vm : ℕ
+  pub mine : Bool
+
+abbrev pub plain : ℕ → Entry
+plain w = record { vm = w; mine = false }
+
+abbrev pub marked : ℕ → Entry
+marked w = record { vm = w; mine = true }
+
+unfoldable pub entries_not : ℕ → List Entry → List Entry
+entries_not v [] = []
+entries_not v (x ∷ q) = pick (eqb x.vm v) (entries_not v q) (x ∷ entries_not v q)
+
+abbrev pub tail : List Entry → List Entry
+tail [] = []
+tail (x ∷ q) = q
+
+-- the marked queue after the event
+abbrev pub followed : Effect → List Entry → List Entry
+followed Keep q = q
+followed Take q = tail q
+followed (Add w) q = q ++ (plain w ∷ [])
+followed (Remove w) q = entries_not w q
+
+abbrev pub mine_first : List Entry → Bool
+mine_first [] = false
+mine_first (x ∷ q) = x.mine
+
+-- the marked request is served in ms: a spare tick finds it oldest, and runs its VM
+unfoldable pub served_in : Config → ℕ → List Entry → List Moment → Bool
+served_in g v q [] = false
+served_in g v q (m ∷ ms) = pick (both (spare g m) (mine_first q)) (runs v m) (served_in g v (followed (effect g m) q) ms)
+
+-- the marked queue is, at each moment, the state's queue
+abbrev pub Follows : Config → List Entry → List Moment → Type 0
+Follows g q [] = Unit {0}
+Follows g q (m ∷ ms) = (map (λ (x : Entry). x.vm) q ≡ entries m.before.queue) × Follows g (followed (effect g m) q) ms

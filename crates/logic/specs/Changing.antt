@@ -1,4 +1,4 @@
--- Which VM an event is about, and what it makes of it (D6 to D30, D38, D41), over small values.
+-- Which VM an event is about, and what it makes of it (D6 to D30), over small values.
 use Rattle.std.specs.Prelude.{ℕ, Bool}
 use Rattle.basis.specs.Choice.{pick}
 use Rattle.basis.specs.Nobody.{nobody}
@@ -6,9 +6,9 @@ use Rattle.change.specs.Answers.{notice_of}
 use Rattle.change.specs.Changes.{called_from, ending_from, failing_from, queueing_from, renewed_from, restarting_from, ticking_from}
 use Rattle.change.specs.declared.Change.{Change}
 use Rattle.event.specs.Kinds.{of_master, of_running, subject}
-use Rattle.event.specs.declared.Event.TheVariants.{Call, Copy, Extra, Fault, Pause, Restart, Resume, Shutdown, Start, Stop, Tick, Write}
+use Rattle.event.specs.declared.Event.TheVariants.{Call, Copy, Extra, Fault, Restart, Shutdown, Start, Stop, Tick, Write}
 use Rattle.event.specs.declared.Event.{Event}
-use Rattle.guest.specs.Record.{paused_standing, pend, ready_standing, saved_at, stopped_standing, with_standing}
+use Rattle.guest.specs.Record.{pend, saved_at, stopped_standing}
 use Rattle.guest.specs.Write.{write}
 use Rattle.guest.specs.declared.Vm.{Vm}
 use Rattle.queue.specs.declared.Queue.{Queue}
@@ -30,5 +30,3 @@ change_from (Call service argument next) place vm running queue noRoom left entr
 change_from (Write offset value) place vm running queue noRoom left entry handler = renewed_from running queue place (write offset value vm) nobody
 change_from (Fault code detail) place vm running queue noRoom left entry handler = failing_from running queue place vm code detail
 change_from (Copy p w) place vm running queue noRoom left entry handler = renewed_from running queue place vm nobody
-change_from (Pause v) place vm running queue noRoom left entry handler = renewed_from running queue place (with_standing paused_standing vm) nobody
-change_from (Resume v) place vm running queue noRoom left entry handler = renewed_from running queue place (with_standing ready_standing vm) nobody

@@ -26,36 +26,32 @@ pub fn place_of(e: Event, running: u8) -> u8
         Event::Write(_, _) => running,
         Event::Fault(_, _) => running,
         Event::Copy(_, _) => running,
-        Event::Pause(v) => v,
-        Event::Resume(v) => v,
     }
 }
 
-// The row of the refusals that applies to an event (R1, from 7 on), or 0; `standing` is that of the VM that it is about.
+// The row of the refusals that applies to an event (R1, from 7 on), or 0; `ready` says it of the VM that it is about.
 pub fn row_of(
     e: Event,
     started: u8,
     count: u8,
     running: u8,
-    standing: u8,
+    ready: bool,
     room: u8,
     queued: u8,
 ) -> u8
-    ensures { result ≡ row_from e started count running standing room queued }
+    ensures { result ≡ row_from e started count running ready room queued }
 {
     match e {
         Event::Start => rows::of_start(started),
         Event::Tick(_) => rows::of_tick(started),
-        Event::Stop(v) => rows::of_alive(started, count, v, standing),
-        Event::Shutdown(v) => rows::of_alive(started, count, v, standing),
+        Event::Stop(v) => rows::of_ready(started, count, v, ready),
+        Event::Shutdown(v) => rows::of_ready(started, count, v, ready),
         Event::Restart(v) => rows::of_any(started, count, v),
-        Event::Extra(v) => rows::of_request(started, count, v, standing, room, queued),
+        Event::Extra(v) => rows::of_request(started, count, v, ready, room, queued),
         Event::Call(_, _, _) => rows::of_running(started, running),
         Event::Write(offset, _) => rows::of_write(started, running, offset),
         Event::Fault(code, _) => rows::of_fault(started, running, code),
         Event::Copy(_, _) => rows::of_running(started, running),
-        Event::Pause(v) => rows::of_ready(started, count, v, standing),
-        Event::Resume(v) => rows::of_paused(started, count, v, standing),
     }
 }
 
@@ -105,13 +101,5 @@ pub fn change_of(
         ),
         Event::Fault(code, detail) => Change::failing(place, vm, running, queue, code, detail),
         Event::Copy(_, _) => Change::renewed(place, vm, running, queue, Answer::NOTHING),
-        Event::Pause(_) => {
-            let paused = vm.with_standing(Vm::PAUSED);
-            Change::renewed(place, paused, running, queue, Answer::NOTHING)
-        }
-        Event::Resume(_) => {
-            let resumed = vm.with_standing(Vm::READY);
-            Change::renewed(place, resumed, running, queue, Answer::NOTHING)
-        }
     }
 }

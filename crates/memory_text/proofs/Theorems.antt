@@ -6,21 +6,19 @@ use lib.ListN.{drop, get_or, length, replicate, take}
 use lib.Seq.{take-append_seam}
 use mathlib.Core.Bool.{Bool, false, true}
 use mathlib.Core.List.{List, append-nil, [], ◌++◌, ◌∷◌}
-use mathlib.Core.Logic.{⊎_elim}
 use mathlib.Core.Path.{ap, refl, sym, ◌∙◌, ◌≡◌}
 use native.Mathlib.Omega.{arith}
 use Rattle.basis.proofs.Laws.{every_of, false_true, pick_case}
 use Rattle.basis.specs.Choice.{both, either, pick}
 use Rattle.basis.specs.Count.{joined}
-use Rattle.rig_core.proofs.Copying.{by_refusal, other_event, stays-failed, stays-refused}
+use Rattle.rig_core.proofs.Copying.{by_refusal, stays-failed, stays-refused}
 use Rattle.rig_core.specs.Events.{step_of}
 use Rattle.rig_core.specs.Memory.{copies, copied_by, memory_after, memory_as}
 use Rattle.rig_core.specs.Refusals.{refusal_of}
 use Rattle.rig_core.specs.State.{fresh_core}
 use Rattle.rig_core.specs.declared.Core.{Core}
-use Rattle.event.proofs.Asking.{copy_or_not}
 use Rattle.event.specs.Kinds.{is_copy}
-use Rattle.event.specs.declared.Event.TheVariants.{Copy}
+use Rattle.event.specs.declared.Event.TheVariants.{Call, Copy, Extra, Fault, Restart, Shutdown, Start, Stop, Tick, Write}
 use Rattle.event.specs.declared.Event.{Event}
 use Rattle.events.specs.Log.{events_from, longest}
 use Rattle.image_reader.specs.Reader.{read_image}
@@ -30,8 +28,6 @@ use Rattle.replay.specs.declared.Stage.TheVariants.{Long, Refused, Running}
 use Rattle.window.specs.Bytes.{copied}
 use Rattle.window.specs.Pieces.{copied_all, extents, moved}
 use Rattle.window.specs.declared.Extent.{Extent}
-use Rattle.window.specs.declared.Pieces.{Pieces}
-use Rattle.window.specs.declared.Window.{Window}
 
 no : {X : Type 0} → ◌≡◌ {A = ℕ} 0 1 → X
 no z = absurd (omega arith)
@@ -90,19 +86,23 @@ neither_right : (a b : Bool) → either a b ≡ false → b ≡ false
 neither_right true b h = false_true (sym h)
 neither_right false b h = h
 
-copy_stays : (c : Core) (p : Pieces) (w : Window) (m : List ℕ) → is_copying c (Copy p w) ≡ false → memory_after c (Copy p w) m ≡ m
-copy_stays c p w m h = go (eqb (step_of c (Copy p w)).answer.refusal 0) (eqb (step_of c (Copy p w)).answer.notice.kind 0) refl refl h
+event_stays : (c : Core) (e : Event) (m : List ℕ) → is_copying c e ≡ false → memory_after c e m ≡ m
+unfolding memory_as
+event_stays c Start m h = refl
+event_stays c (Tick at) m h = refl
+event_stays c (Stop v) m h = refl
+event_stays c (Shutdown v) m h = refl
+event_stays c (Restart v) m h = refl
+event_stays c (Extra v) m h = refl
+event_stays c (Call service argument next) m h = refl
+event_stays c (Write offset value) m h = refl
+event_stays c (Fault code detail) m h = refl
+event_stays c (Copy p w) m h = go (eqb (step_of c (Copy p w)).answer.refusal 0) (eqb (step_of c (Copy p w)).answer.notice.kind 0) refl refl h
   where
     go : (a b : Bool) → eqb (step_of c (Copy p w)).answer.refusal 0 ≡ a → eqb (step_of c (Copy p w)).answer.notice.kind 0 ≡ b → both a b ≡ false → memory_after c (Copy p w) m ≡ m
     go false b x y z = sym (stays-refused c p w (refusal_of c (Copy p w)) (step_of c (Copy p w)) (by_refusal c (Copy p w) _ refl) m (eqb-false _ 0 x))
     go true false x y z = sym (stays-failed c p w (refusal_of c (Copy p w)) (step_of c (Copy p w)) (by_refusal c (Copy p w) _ refl) m (eqb-true _ 0 x) (eqb-false _ 0 y))
     go true true x y z = false_true (sym z)
-
-event_stays : (c : Core) (e : Event) (m : List ℕ) → is_copying c e ≡ false → memory_after c e m ≡ m
-event_stays c e m h = ⊎_elim (other_event (refusal_of c e) c e m) copied (copy_or_not e)
-  where
-    copied : (p : Pieces) × (w : Window) × (e ≡ Copy p w) → memory_after c e m ≡ m
-    copied (p, w, is) = rw is (copy_stays c p w m (rw is at h))
 
 events_stay : (c : Core) (es : List Event) (m : List ℕ) → some_copying c es ≡ false → memory_by c es m ≡ m
 unfolding memory_by some_copying
@@ -170,10 +170,16 @@ zeros_copied base (x ∷ xs) m h = zeros_copied base xs (moved base x m) (zeros_
 
 zeros_after : (c : Core) (e : Event) (m : List ℕ) → Zeros m → Zeros (memory_after c e m)
 unfolding memory_as
-zeros_after c e m h = ⊎_elim (λ o. rw (other_event (refusal_of c e) c e m o) h) copied (copy_or_not e)
-  where
-    copied : (p : Pieces) × (w : Window) × (e ≡ Copy p w) → Zeros (memory_after c e m)
-    copied (p, w, is) = rw is (pick_case Zeros (copies c w p) (copied_by w.base p m) m (λ t. zeros_copied w.base (take p.count (extents p)) m h) (λ t. h))
+zeros_after c Start m h = h
+zeros_after c (Tick at) m h = h
+zeros_after c (Stop v) m h = h
+zeros_after c (Shutdown v) m h = h
+zeros_after c (Restart v) m h = h
+zeros_after c (Extra v) m h = h
+zeros_after c (Call service argument next) m h = h
+zeros_after c (Write offset value) m h = h
+zeros_after c (Fault code detail) m h = h
+zeros_after c (Copy p w) m h = pick_case Zeros (copies c w p) (copied_by w.base p m) m (λ t. zeros_copied w.base (take p.count (extents p)) m h) (λ t. h)
 
 zeros_by : (c : Core) (es : List Event) (m : List ℕ) → Zeros m → Zeros (memory_by c es m)
 unfolding memory_by

@@ -13,6 +13,5 @@ pub mod Removing
 pub mod Copying
 pub mod Accounts
 pub mod Slices
-pub mod Marked
 pub mod Waiting
 pub mod All

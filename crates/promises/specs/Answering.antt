@@ -6,7 +6,7 @@ use Rattle.config.specs.declared.Config.{Config}
 use Rattle.rig_core.specs.State.{vm_at}
 use Rattle.rig_core.specs.declared.Core.{Core}
 use Rattle.event.specs.Kinds.{byte_of, is_call}
-use Rattle.event.specs.declared.Event.TheVariants.{Call, Copy, Extra, Fault, Pause, Restart, Resume, Shutdown, Start, Stop, Tick, Write}
+use Rattle.event.specs.declared.Event.TheVariants.{Call, Copy, Extra, Fault, Restart, Shutdown, Start, Stop, Tick, Write}
 use Rattle.event.specs.declared.Event.{Event}
 use Rattle.history.specs.History.{AtEachEvent, Behaviour, Moment, went}
 use Rattle.history.specs.Queueing.{effect, removed_from, removes}
@@ -35,8 +35,6 @@ notice_by c (Call s n at) =
 notice_by c (Write o x) = no_notice
 notice_by c (Fault k d) = noticed 3 c.running k d
 notice_by c (Copy p w) = pick (eqb (failure_for c w p).code 0) no_notice (noticed 3 c.running (failure_for c w p).code (failure_for c w p).detail)
-notice_by c (Pause v) = no_notice
-notice_by c (Resume v) = no_notice
 
 -- A6: 1 for a Call for extra time that finds the queue full, and else 0
 abbrev pub result_by : Core → Event → ℕ

@@ -7,7 +7,7 @@ use Rattle.config.specs.Sizes.{handler_at}
 use Rattle.config.specs.declared.Config.{Config}
 use Rattle.rig_core.specs.State.{vm_at}
 use Rattle.rig_core.specs.declared.Core.{Core}
-use Rattle.event.specs.declared.Event.TheVariants.{Call, Copy, Extra, Fault, Pause, Restart, Resume, Shutdown, Start, Stop, Tick, Write}
+use Rattle.event.specs.declared.Event.TheVariants.{Call, Copy, Extra, Fault, Restart, Shutdown, Start, Stop, Tick, Write}
 use Rattle.event.specs.declared.Event.{Event}
 use Rattle.guest.specs.Bits.{clear_bit, set_bit}
 use Rattle.guest.specs.declared.Vm.{Vm}
@@ -118,8 +118,6 @@ DeliversBy g m (Call s n at) = DeliversAtCall g s n at m
 DeliversBy g m (Write o x) = m.answer.delivered ≡ 255
 DeliversBy g m (Fault k d) = m.answer.delivered ≡ 255
 DeliversBy g m (Copy p w) = DeliversAtCopy p.next m
-DeliversBy g m (Pause v) = m.answer.delivered ≡ 255
-DeliversBy g m (Resume v) = m.answer.delivered ≡ 255
 
 pub record DeliversOf (g : Config) (ms : List Moment) (m : Moment) : Type 0 where
   pub refused : went m ≡ false → m.answer.delivered ≡ 255

@@ -4,7 +4,7 @@ use Rattle.basis.specs.Choice.{both, either}
 use Rattle.config.specs.Sizes.{entry_at}
 use Rattle.config.specs.declared.Config.{Config}
 use Rattle.rig_core.specs.State.{vm_at}
-use Rattle.event.specs.declared.Event.TheVariants.{Call, Copy, Extra, Fault, Pause, Restart, Resume, Shutdown, Start, Stop, Tick, Write}
+use Rattle.event.specs.declared.Event.TheVariants.{Call, Copy, Extra, Fault, Restart, Shutdown, Start, Stop, Tick, Write}
 use Rattle.event.specs.declared.Event.{Event}
 use Rattle.guest.specs.declared.Status.{Status}
 use Rattle.guest.specs.declared.Vm.{Vm}
@@ -34,7 +34,7 @@ Starts = AtEachEvent StartsOf
 -- ---- the ten fields
 
 pub data Field : Type 0 where
-  Since Left Enabled Pending ResumeAt Reason Previous Restore OnTick Running : Field
+  Since Left Enabled Pending Resume Reason Previous Restore OnTick Running : Field
 
 -- F1 to F10
 abbrev pub offset_of : Field → ℕ
@@ -42,7 +42,7 @@ offset_of Since = 0
 offset_of Left = 4
 offset_of Enabled = 8
 offset_of Pending = 12
-offset_of ResumeAt = 16
+offset_of Resume = 16
 offset_of Reason = 20
 offset_of Previous = 24
 offset_of Restore = 28
@@ -54,7 +54,7 @@ value_of Since s = s.since
 value_of Left s = s.left
 value_of Enabled s = s.enabled
 value_of Pending s = s.pending
-value_of ResumeAt s = s.resume
+value_of Resume s = s.resume
 value_of Reason s = s.reason
 value_of Previous s = s.previous
 value_of Restore s = s.restore
@@ -81,7 +81,7 @@ of_tick Since = true
 of_tick Left = true
 of_tick Enabled = false
 of_tick Pending = true
-of_tick ResumeAt = false
+of_tick Resume = false
 of_tick Reason = false
 of_tick Previous = false
 of_tick Restore = false
@@ -94,7 +94,7 @@ of_delivery Since = false
 of_delivery Left = false
 of_delivery Enabled = true
 of_delivery Pending = true
-of_delivery ResumeAt = true
+of_delivery Resume = true
 of_delivery Reason = true
 of_delivery Previous = true
 of_delivery Restore = false
@@ -120,8 +120,6 @@ names_by v m (Call s n at) f = both (eqb m.before.running v) (either (of_call s 
 names_by v m (Write o x) f = both (eqb m.before.running v) (eqb o (offset_of f))
 names_by v m (Fault k d) f = false
 names_by v m (Copy p w) f = false
-names_by v m (Pause w) f = false
-names_by v m (Resume w) f = false
 
 -- the events that name the run address of v
 abbrev pub moves_by : ℕ → Moment → Event → Bool
@@ -135,10 +133,8 @@ moves_by v m (Call s n at) = eqb m.before.running v
 moves_by v m (Write o x) = false
 moves_by v m (Fault k d) = false
 moves_by v m (Copy p w) = eqb m.before.running v
-moves_by v m (Pause w) = false
-moves_by v m (Resume w) = false
 
--- D9, D16, D17, D22, D38, D41: no field and no address moves that an accepted event does not name
+-- D9, D16, D17, D22: no field and no address moves that an accepted event does not name
 pub record FrameOf (g : Config) (ms : List Moment) (m : Moment) : Type 0 where
   pub fields : went m ≡ true → (v : ℕ) → v < g.count → (f : Field) → names_by v m m.event f ≡ false → value_of f (vm_at m.after v).status ≡ value_of f (vm_at m.before v).status
   pub address : went m ≡ true → (v : ℕ) → v < g.count → moves_by v m m.event ≡ false → (vm_at m.after v).address ≡ (vm_at m.before v).address

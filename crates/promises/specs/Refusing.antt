@@ -6,7 +6,7 @@ use Rattle.rig_core.specs.Sound.{sound}
 use Rattle.rig_core.specs.State.{vm_at}
 use Rattle.rig_core.specs.declared.Core.{Core}
 use Rattle.rig_core.specs.declared.Stepped.{Stepped}
-use Rattle.event.specs.declared.Event.TheVariants.{Call, Copy, Extra, Fault, Pause, Restart, Resume, Shutdown, Start, Stop, Tick, Write}
+use Rattle.event.specs.declared.Event.TheVariants.{Call, Copy, Extra, Fault, Restart, Shutdown, Start, Stop, Tick, Write}
 use Rattle.event.specs.declared.Event.{Event}
 use Rattle.history.specs.History.{AtEachState, Behaviour}
 
@@ -26,13 +26,6 @@ no_such_vm c v = line (not (ltb v c.config.count)) 3
 abbrev pub not_ready : Core → ℕ → Line
 not_ready c v = line (not (eqb (vm_at c v).standing 1)) 4
 
--- neither ready nor paused
-abbrev pub not_alive : Core → ℕ → Line
-not_alive c v = line (both (not (eqb (vm_at c v).standing 1)) (not (eqb (vm_at c v).standing 5))) 4
-
-abbrev pub not_paused : Core → ℕ → Line
-not_paused c v = line (not (eqb (vm_at c v).standing 5)) 11
-
 abbrev pub nobody_runs : Core → Line
 nobody_runs c = line (eqb c.running 255) 5
 
@@ -40,16 +33,14 @@ nobody_runs c = line (eqb c.running 255) 5
 abbrev pub lines_by : Core → Event → List Line
 lines_by c Start = line (eqb c.clock.started 1) 7 ∷ []
 lines_by c (Tick at) = not_started c ∷ []
-lines_by c (Stop v) = not_started c ∷ no_such_vm c v ∷ not_alive c v ∷ []
-lines_by c (Shutdown v) = not_started c ∷ no_such_vm c v ∷ not_alive c v ∷ []
+lines_by c (Stop v) = not_started c ∷ no_such_vm c v ∷ not_ready c v ∷ []
+lines_by c (Shutdown v) = not_started c ∷ no_such_vm c v ∷ not_ready c v ∷ []
 lines_by c (Restart v) = not_started c ∷ no_such_vm c v ∷ []
 lines_by c (Extra v) = not_started c ∷ no_such_vm c v ∷ not_ready c v ∷ line (leb c.config.room c.queue.len) 6 ∷ []
 lines_by c (Call s n at) = not_started c ∷ nobody_runs c ∷ []
 lines_by c (Write o x) = not_started c ∷ nobody_runs c ∷ line (not (both (eqb (o % 4) 0) (leb o 36))) 8 ∷ []
 lines_by c (Fault k d) = not_started c ∷ nobody_runs c ∷ line (not (both (leb 3 k) (leb k 5))) 9 ∷ []
 lines_by c (Copy p w) = not_started c ∷ nobody_runs c ∷ []
-lines_by c (Pause v) = not_started c ∷ no_such_vm c v ∷ not_ready c v ∷ []
-lines_by c (Resume v) = not_started c ∷ no_such_vm c v ∷ not_paused c v ∷ []
 
 -- R1: of every event, first of all
 unfoldable pub lines_of : Core → Event → List Line

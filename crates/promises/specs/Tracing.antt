@@ -11,7 +11,7 @@ use Rattle.queue.specs.Entries.{Places, entries}
 use Rattle.table.specs.Place.{table_at}
 
 pub record TracedOf (g : Config) (ms : List Moment) (k : ℕ) (c : Core) : Type 0 where
-  -- T3, D1, D14, D18, D23, D27, D28, D30, D38, D41: how each VM stands
+  -- T3, D1, D14, D18, D23, D27, D28, D30: how each VM stands
   pub standing : (v : ℕ) → v < g.count → (vm_at c v).standing ≡ standing_in v ms
   -- D2: whether the core is started
   pub started : c.clock.started ≡ started_in ms
@@ -27,7 +27,7 @@ Traced = AtEachState TracedOf
 pub record RunsOf (g : Config) (ms : List Moment) (m : Moment) : Type 0 where
   -- D6, D7: at a tick the VM that table, standing and queue name, or nobody
   pub tick : ticking m ≡ true → m.after.running ≡ chosen_in g (table_at g m.ticks) ms
-  -- D2, D15, D19, D23, D28, D39, D41: at any other event the same VM, or nobody where the event ended it
+  -- D2, D15, D19, D23, D28: at any other event the same VM, or nobody where the event ended it
   pub other : went m ≡ true → is_tick m.event ≡ false
       → m.after.running ≡ pick (ended_by m.before.running m.before.running m.answer m.event) 255 m.before.running
 

@@ -8,9 +8,23 @@ use Rattle.basis.specs.Count.{every}
 use Rattle.basis.specs.Nobody.{nobody}
 use Rattle.queue.proofs.Lists.{set_past, zeros_at}
 use Rattle.queue.proofs.Meaning.{others_count}
-use Rattle.queue.proofs.Middle.{entries-but}
-use Rattle.queue.specs.Entries.{All, Counted, cleared, counted_of, entries, entries_of, first_of, lowered, others, raised, without_first}
+use Rattle.queue.specs.Entries.{All, Counted, cleared, counted_of, entries, entries_of, front_of, lowered, others, raised, rest}
 use Rattle.queue.specs.declared.Queue.{Queue}
+
+-- a front that is a VM leaves the rest behind it
+pub front_rest : (v : ℕ) (q : List ℕ) → v < nobody → front_of q ≡ v → q ≡ v ∷ rest q
+unfolding front_of rest
+front_rest v [] h e = absurd (omega arith)
+front_rest v (x ∷ q) h e = rw e
+
+pub entries_rest : (v : ℕ) (q : List ℕ) → v < nobody → entries_of v q ≡ pick (eqb (front_of q) v) 1 0 + entries_of v (rest q)
+unfolding entries_of front_of rest
+entries_rest v [] h = rw (ne_eqb nobody v (λ e. omega arith))
+entries_rest v (x ∷ q) h = go (eqb x v)
+  where
+    go : (b : Bool) → pick b (suc (entries_of v q)) (entries_of v q) ≡ pick b 1 0 + entries_of v q
+    go true = omega arith
+    go false = omega arith
 
 -- D20
 pub entries_add : (v w : ℕ) (q : List ℕ) → entries_of v (q ++ (w ∷ [])) ≡ entries_of v q + pick (eqb w v) 1 0
@@ -82,14 +96,14 @@ module _ (counts l : List ℕ) (eight : length counts ≡ 8) (h : Counted counts
       joins w e = rw e at (entries_add w v l)
 
   -- D7
-  pub counted-lowered : (p : ℕ → Bool) → Counted (lowered (first_of p l) counts) (without_first p l)
-  counted-lowered p =
-      counted_set counts l (without_first p l) (first_of p l) (get_or counts (first_of p l) 0 - 1) eight h
-      (λ i. omega (arith, h (first_of p l) i, leaves (first_of p l) (omega arith) (eqb_same (first_of p l))))
+  pub counted-lowered : Counted (lowered (front_of l) counts) (rest l)
+  counted-lowered =
+      counted_set counts l (rest l) (front_of l) (get_or counts (front_of l) 0 - 1) eight h
+      (λ i. omega (arith, h (front_of l) i, leaves (front_of l) (omega arith) (eqb_same (front_of l))))
       (λ w i e. omega (arith, leaves w (omega arith) e))
     where
-      leaves : (w : ℕ) {b : Bool} → w < nobody → eqb (first_of p l) w ≡ b → entries_of w l ≡ pick b 1 0 + entries_of w (without_first p l)
-      leaves w i e = rw e at (entries-but p w l i)
+      leaves : (w : ℕ) {b : Bool} → w < nobody → eqb (front_of l) w ≡ b → entries_of w l ≡ pick b 1 0 + entries_of w (rest l)
+      leaves w i e = rw e at (entries_rest w l i)
 
   -- D14, D18
   pub counted-cleared : (v : ℕ) → Counted (cleared v counts) (others v l)

@@ -1,6 +1,5 @@
 pub mod Lists
 pub mod Meaning
-pub mod Middle
 pub mod Turns
 pub mod Unique
 pub mod Counted

@@ -1,13 +1,53 @@
 -- The queue means the list of its entries: what each result's entries are, and laws of the lists.
-use Rattle.std.proofs.Common.{◌≡◌, ℕ, zero, suc, ◌+◌, ◌-◌, ◌<◌, ◌≤◌, Bool, true, false, eqb, ltb, List, [], ◌∷◌, ◌++◌, length, get_or, replicate, sym, refl, ◌∙◌, ⊎_elim, arith, length-append, length-set, length-take, length-take-le, ext_get_or, ltb-true, le-ltb, lt-ltb, eq-eqb, eqb-true}
+use Rattle.std.proofs.Common.{◌≡◌, ℕ, zero, suc, ◌+◌, ◌-◌, ◌<◌, ◌≤◌, Bool, true, false, eqb, ltb, ◌≢◌, List, [], ◌∷◌, ◌++◌, length, get_or, take, replicate, sym, refl, ◌∙◌, ⊎_elim, add-one, arith, length-append, length-set, length-take, length-take-le, ext_get_or, ltb-true, le-ltb, lt-ltb, eq-eqb, eqb-true}
 use lib.Seq.{take-append_seam}
 use native.Mathlib.Decide.{dec_lt}
 use Rattle.basis.proofs.Laws.{either_is, either_left, either_right, every-is, every_of}
 use Rattle.basis.specs.Choice.{either, pick}
+use Rattle.basis.specs.Nobody.{nobody}
 use Rattle.queue.proofs.Lists.{length_pad, pad, pad_at, past_at, take_at_in, take_at_past}
-use Rattle.queue.specs.Entries.{All, Places, cleared, entries, entries_of, holding, others, padded_of, pushed, raised, removal}
+use Rattle.queue.specs.Entries.{All, Places, cleared, entries, entries_of, front_of, holding, lowered, others, padded_of, popped, pushed, raised, removal, rest}
 use Rattle.queue.specs.declared.Queue.{Queue}
 
+-- front_of and rest
+pub front_cons : (x : ℕ) (l : List ℕ) → front_of (x ∷ l) ≡ x
+unfolding front_of
+front_cons x l = refl
+
+pub front_nil : front_of [] ≡ nobody
+unfolding front_of
+front_nil = refl
+
+-- the front of the first n elements
+pub front_none : (l : List ℕ) (n r : ℕ) → n ≡ 0 → r ≡ nobody → r ≡ front_of (take n l)
+unfolding front_of
+front_none l n r e f = rw e f
+
+pub front_some : (l : List ℕ) (n r : ℕ) → length l ≡ 16 → n ≢ 0 → r ≡ get_or l 0 0 → r ≡ front_of (take n l)
+unfolding front_of
+front_some [] n r s h e = absurd (omega arith)
+front_some (x ∷ l) zero r s h e = absurd (h refl)
+front_some (x ∷ l) (suc n) r s h e = e
+
+pub rest_cons : (x : ℕ) (l : List ℕ) → rest (x ∷ l) ≡ l
+unfolding rest
+rest_cons x l = refl
+
+pub rest_nil : rest [] ≡ []
+unfolding rest
+rest_nil = refl
+
+pub rest_length : (l : List ℕ) → length (rest l) ≡ length l - 1
+unfolding rest
+rest_length [] = refl
+rest_length (x ∷ l) = omega arith
+
+pub rest_at : (l : List ℕ) (k : ℕ) → get_or (rest l) k 0 ≡ get_or l (k + 1) 0
+unfolding rest
+rest_at [] k = refl
+rest_at (x ∷ l) k = rw add-one
+
+-- others
 -- A8: the entries are those that stay and those of v
 pub others_count : (v : ℕ) (l : List ℕ) → length l ≡ length (others v l) + entries_of v l
 unfolding others entries_of
@@ -95,6 +135,11 @@ pub entries_pushed : (v : ℕ) (q : Queue) → q.len < 16 → entries (pushed v 
 unfolding pushed
 entries_pushed v q h = rw (lt-ltb q.len 16 h) (entries_of_lem (entries q ++ (v ∷ [])) (raised v q.counts))
 
+-- D7
+pub entries_popped : (q : Queue) → entries (popped q) ≡ rest (entries q)
+unfolding popped
+entries_popped q = entries_of_lem (rest (entries q)) (lowered (front_of (entries q)) q.counts)
+
 -- D14, D18
 pub entries_without : (v : ℕ) (q : Queue) → entries (removal v q).queue ≡ others v (entries q)
 entries_without v q = entries_of_lem (others v (entries q)) (cleared v q.counts)
@@ -124,14 +169,26 @@ len_pushed v q s h = rw (pushed_done v q h) (simp (length-append, length-take) (
 pub padded_pushed : (v : ℕ) (q : Queue) → q.len < 16 → padded_of (pushed v q) ≡ true
 padded_pushed v q h = rw (pushed_done v q h) (padded_of_lem (entries q ++ (v ∷ [])) (raised v q.counts) (snoc_most v q h))
 
+pub rest_most : (q : Queue) → length q.items ≡ 16 → length (rest (entries q)) ≤ 16
+rest_most q s = simp (rest_length, length-take) (omega arith)
+
 pub others_most : (v : ℕ) (q : Queue) → length q.items ≡ 16 → length (others v (entries q)) ≤ 16
 others_most v q s = let h = others_length v (entries q) in let g = entries_most q s in omega arith
+
+pub places_popped : (q : Queue) → Places q → Places (popped q)
+unfolding popped
+places_popped q s = places_of (rest (entries q)) (lowered (front_of (entries q)) q.counts) (rest_most q s.items) (length-set q.counts (front_of (entries q)) _ ∙ s.counts)
 
 pub places_without : (v : ℕ) (q : Queue) → Places q → Places (removal v q).queue
 places_without v q s = places_of (others v (entries q)) (cleared v q.counts) (others_most v q s.items) (length-set q.counts v 0 ∙ s.counts)
 
 -- a fact about each entry
 module _ (p : ℕ → Type 0) where
+  pub all_rest : (l : List ℕ) → All p l → All p (rest l)
+  unfolding rest
+  all_rest [] a = a
+  all_rest (x ∷ l) a = a.1
+
   pub all_others : (v : ℕ) (l : List ℕ) → All p l → All p (others v l)
   unfolding others
   all_others v [] a = a
@@ -144,6 +201,11 @@ module _ (p : ℕ → Type 0) where
   pub all_append : (l : List ℕ) (x : ℕ) → All p l → p x → All p (l ++ (x ∷ []))
   all_append [] x a h = (h, tt)
   all_append (y ∷ l) x a h = (a.0, all_append l x a.1 h)
+
+  pub all-front : (l : List ℕ) → 0 < length l → All p l → p (front_of l)
+  unfolding front_of
+  all-front [] h a = absurd (omega arith)
+  all-front (x ∷ l) h a = a.0
 
   pub all-at : (l : List ℕ) → All p l → (k : ℕ) → k < length l → p (get_or l k 0)
   all-at [] a k h = absurd (omega arith)

@@ -5,11 +5,15 @@ use native.Mathlib.Decide.{dec_lt}
 use Rattle.basis.proofs.Laws.{every_more, every_of, false_true, or_none}
 use Rattle.basis.specs.Choice.{either, pick}
 use Rattle.basis.specs.Count.{every, up_to}
-use Rattle.queue.proofs.Lists.{filled, filled_is, length_pad, pad, pad_at, pad_snoc, past_at, snoc_at, take_at_in}
-use Rattle.queue.proofs.Meaning.{others_append, others_count, others_drops, others_keeps, others_length, queue_is}
-use Rattle.queue.specs.Entries.{cleared, entries, entries_of, holding, others, removal}
+use Rattle.queue.proofs.Lists.{filled, filled_is, length_pad, pad, pad_at, pad_snoc, past_at, snoc_at, take_at_in, take_at_pick}
+use Rattle.queue.proofs.Meaning.{others_append, others_count, others_drops, others_keeps, others_length, queue_is, rest_at, rest_length}
+use Rattle.queue.specs.Entries.{cleared, entries, entries_of, holding, others, removal, rest}
 use Rattle.queue.specs.declared.Queue.{Queue}
 use Rattle.queue.specs.declared.Removal.{Removal}
+
+-- the places when the oldest entry has left
+abbrev pub upward : ℕ → List ℕ → ℕ → ℕ
+upward n items k = pick (ltb (k + 1) n) (get_or items (k + 1) 0) 0
 
 -- the places when v has joined
 abbrev pub longer : ℕ → ℕ → List ℕ → ℕ → ℕ
@@ -26,6 +30,27 @@ filled_none f l e = e
 pub filled_more : (f : ℕ → ℕ) (k : ℕ) (l m : List ℕ) (x : ℕ) → l ≡ filled f k → x ≡ f k → m ≡ set l k x → m ≡ filled f (k + 1)
 unfolding up_to
 filled_more f k l m x e g h = rw add-one (rw (← e, ← g) h)
+
+-- the loop that moves each entry up has made the queue without its oldest
+pub popped_is : (n : ℕ) (items out : List ℕ) (k len : ℕ) (counts d : List ℕ) → length items ≡ 16 → out ≡ filled (upward n items) k → k ≡ 15 → len ≡ min n 16 - 1 → counts ≡ d
+    → ◌≡◌ {A = Queue} (record { items = out; len = len; counts = counts }) (holding (rest (take n items)) d)
+popped_is n items out k len counts d s e f g same =
+    queue_is l out len counts d (rw f at e ∙ filled_is (upward n items) 15 (pad l) (omega arith) (length_pad l (omega (arith, long))) below past) (g ∙ sym long) same
+  where
+    l : List ℕ
+    l = rest (take n items)
+
+    long : length l ≡ min n 16 - 1
+    long = simp (rest_length, length-take) (omega arith)
+
+    at_place : (j : ℕ) → get_or (pad l) j 0 ≡ upward n items j
+    at_place j = pad_at l (16 - length l) j ∙ rest_at (take n items) j ∙ take_at_pick n items (j + 1)
+
+    below : (j : ℕ) → j < 15 → upward n items j ≡ get_or (pad l) j 0
+    below j h = sym (at_place j)
+
+    past : (j : ℕ) → 15 ≤ j → get_or (pad l) j 0 ≡ 0
+    past j h = pad_at l (16 - length l) j ∙ past_at l j (omega (arith, long))
 
 -- the loop that copies and adds has made the queue with v at its end
 pub pushed_is : (v n : ℕ) (items out : List ℕ) (k : ℕ) (counts d : List ℕ) → length items ≡ 16 → n < 16 → out ≡ filled (longer v n items) k → k ≡ 16 → counts ≡ d

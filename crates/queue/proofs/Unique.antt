@@ -11,19 +11,14 @@ use Rattle.queue.proofs.Queue.pushed.Kinds as pushed-kinds
 use Rattle.queue.proofs.Queue.pushed.Reads as pushed-reads
 use Rattle.queue.proofs.Queue.served.Kinds as served-kinds
 use Rattle.queue.proofs.Queue.served.Reads as served-reads
-use Rattle.queue.proofs.Queue.served_by.Kinds as served-by-kinds
-use Rattle.queue.proofs.Queue.served_by.Reads as served-by-reads
 use Rattle.queue.proofs.Queue.without.Kinds as without-kinds
 use Rattle.queue.proofs.Queue.without.Reads as without-reads
 
 pub queue_empty_one : OneAnswer 0 empty-kinds.ps empty-kinds.r empty-reads.Post
 queue_empty_one κs a x y s t p q = p ∙ sym q
 
-pub queue_served_one : OneAnswer 1 served-kinds.ps served-kinds.r served-reads.Post
+pub queue_served_one : OneAnswer 0 served-kinds.ps served-kinds.r served-reads.Post
 queue_served_one κs a x y s t p q = p ∙ sym q
-
-pub queue_served_by_one : OneAnswer 0 served-by-kinds.ps served-by-kinds.r served-by-reads.Post
-queue_served_by_one κs a x y s t p q = p ∙ sym q
 
 pub queue_pushed_one : OneAnswer 0 pushed-kinds.ps pushed-kinds.r pushed-reads.Post
 queue_pushed_one κs a x y s t p q = p ∙ sym q

@@ -2,15 +2,12 @@
 // entries (W5), and counts that follow what was done (T10), whether those before were right or not.
 #![tactic(auto)]
 mod counts;
-mod taking;
 
 ghost use Rattle.std.specs.Prelude.{◌≡◌, ◌+◌, ◌<◌, min, true, false, ◌==◌, nat_lt};
 ghost use Rattle.basis.specs.Choice.{pick};
-ghost use Rattle.guest.specs.Record.{ready_in};
-ghost use Rattle.queue.specs.Entries.{cleared, counted_of, entries, holding, no_entries, others, padded_of, pushed, ready_among, removal, served, served_at};
+ghost use Rattle.queue.specs.Entries.{cleared, counted_of, entries, front_of, holding, no_entries, others, padded_of, popped, pushed, removal, served};
 
 use basis::tests::fault;
-use guest::Vm;
 
 // A queue of sixteen places: its first `len` are its entries (T5), and each VM's are counted (T10).
 #[repr(C)]
@@ -49,57 +46,51 @@ impl Queue {
         }
     }
 
-    // Who is served at a tick, and what is left: at a spare tick the oldest entry whose VM is ready leaves, if there is one (D7).
-    pub fn served(self, spare: bool, standings: &[u8]) -> Served
-        ensures { result ≡ served spare (ready_in standings.now) self }
+    // Who is served at a tick, and what is left: at a spare tick the oldest entry leaves, if there is one (D7).
+    pub fn served(self, spare: bool) -> Served
+        ensures { result ≡ served spare self }
     {
         if spare {
-            let items = self.items;
-            let at = taking::place(items, entry_count(self.len), standings);
-            return self.taken_at(at);
-        }
-        Served {
-            vm: basis::NOBODY,
-            queue: self,
+            Served {
+                vm: self.front(),
+                queue: self.popped(),
+            }
+        } else {
+            Served {
+                vm: basis::NOBODY,
+                queue: self,
+            }
         }
     }
 
-    // The same by the VM records; they are handed on at a spare tick only, since that copies them.
-    pub fn served_by(self, spare: bool, vms: [Vm; 8]) -> Served
-        ensures { result ≡ served spare (ready_among vms) self }
+    // The oldest entry, or NOBODY.
+    fn front(self) -> u8
+        ensures { result ≡ front_of (entries self) }
     {
-        if spare {
-            let items = self.items;
-            let at = taking::place_among(items, entry_count(self.len), vms);
-            return self.taken_at(at);
+        if self.len == 0 {
+            return basis::NOBODY;
         }
-        Served {
-            vm: basis::NOBODY,
-            queue: self,
-        }
+        self.items[0]
     }
 
-    // The entry at that place, taken out; past the entries there is none, and the queue is not touched (D7).
-    fn taken_at(self, at: u8) -> Served
-        ensures { result ≡ served_at at self }
+    // Each place takes what the next one has; where that is no entry, zero.
+    fn popped(self) -> Queue
+        ensures { result ≡ popped self }
     {
-        let n = entry_count(self.len);
-        if at < n {
-            let items = self.items;
-            let counts = self.counts;
-            let vm = items[at as usize];
-            return Served {
-                vm: vm,
-                queue: Queue {
-                    items: taking::closed_up(items, n, at),
-                    len: n - 1,
-                    counts: counts::lowered(counts, vm),
-                },
-            };
+        let items = self.items;
+        let n = self.len;
+        let mut out: [u8; 16] = [0; 16];
+        let mut k: usize = 0;
+        while k < 15 {
+            out[k] = moved_up(k as u8, n, items[k + 1]);
+            k = k + 1;
         }
-        Served {
-            vm: basis::NOBODY,
-            queue: self,
+        let counts = self.counts;
+        let oldest = self.front();
+        Queue {
+            items: out,
+            len: counts::one_less(entry_count(n)),
+            counts: counts::lowered(counts, oldest),
         }
     }
 
@@ -193,6 +184,14 @@ impl Queue {
         }
         bits == 0
     }
+}
+
+// What place k holds when the oldest of n entries has left; `next` is what place k + 1 held.
+fn moved_up(k: u8, n: u8, next: u8) -> u8
+    requires { k < 15 }
+    ensures { result ≡ pick (nat_lt (k + 1) n) next 0 }
+{
+    if k + 1 < n { next } else { 0 }
 }
 
 // How many entries a queue has whose `len` is n: no more than it has places.

@@ -7,7 +7,6 @@ use mathlib.Core.Bool.{Bool, false, true}
 use mathlib.Core.List.{List}
 use mathlib.Core.Path.{ap, refl, sym, ◌∙◌, ◌≡◌}
 use native.Mathlib.Omega.{arith}
-use Rattle.basis.proofs.Laws.{false_true}
 use Rattle.basis.specs.Choice.{pick}
 use Rattle.basis.specs.Nobody.{nobody}
 use Rattle.change.specs.Changes.{copying_from, failing_from, renewed_from}
@@ -20,8 +19,7 @@ use Rattle.rig_core.specs.Sound.{sound}
 use Rattle.rig_core.specs.State.{vm_at}
 use Rattle.rig_core.specs.declared.Core.{Core}
 use Rattle.rig_core.specs.declared.Stepped.{Stepped}
-use Rattle.event.specs.Kinds.{is_copy}
-use Rattle.event.specs.declared.Event.TheVariants.{Call, Copy, Extra, Fault, Pause, Restart, Resume, Shutdown, Start, Stop, Tick, Write}
+use Rattle.event.specs.declared.Event.TheVariants.{Copy}
 use Rattle.event.specs.declared.Event.{Event}
 use Rattle.guest.specs.Record.{saved_at}
 use Rattle.window.specs.Pieces.{copied_all, extents, fits, no_extent}
@@ -99,22 +97,6 @@ module _ (c : Core) (e : Event) (b : Bool) (m m' : List ℕ) (test : b ≡ sound
   pub memory-goes : b ≡ true → m' ≡ inner_memory c e m → m' ≡ memory_after c e m
   unfolding refusal_of
   memory-goes h f = rw (sym test ∙ h) f
-
--- D37: no other event moves one
-pub other_event : (n : ℕ) (c : Core) (e : Event) (m : List ℕ) → is_copy e ≡ false → memory_as n c e m ≡ m
-unfolding memory_as
-other_event n c Start m h = refl
-other_event n c (Tick at) m h = refl
-other_event n c (Stop v) m h = refl
-other_event n c (Shutdown v) m h = refl
-other_event n c (Restart v) m h = refl
-other_event n c (Extra v) m h = refl
-other_event n c (Call service argument next) m h = refl
-other_event n c (Write offset value) m h = refl
-other_event n c (Fault code detail) m h = refl
-other_event n c (Copy p w) m h = false_true (sym h)
-other_event n c (Pause v) m h = refl
-other_event n c (Resume v) m h = refl
 
 -- R1, row 1: on any other none moves
 pub memory_stays : (c : Core) (p : Pieces) (w : Window) (b : Bool) (m : List ℕ) → b ≡ sound c → b ≡ false → m ≡ memory_after c (Copy p w) m

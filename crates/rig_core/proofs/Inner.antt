@@ -25,19 +25,19 @@ use Rattle.rig_core.specs.Events.{copying, done, failure_of, inner_of, start_cor
 use Rattle.rig_core.specs.Parts.{change_at, change_in, kept, parts_of, rejoined}
 use Rattle.rig_core.specs.Refusals.{refusal_of, refused, row_of}
 use Rattle.rig_core.specs.Sound.{sound}
-use Rattle.rig_core.specs.State.{alive_at, full, ready_at, vm_at}
+use Rattle.rig_core.specs.State.{full, ready_at, vm_at}
 use Rattle.rig_core.specs.declared.After.{After}
 use Rattle.rig_core.specs.declared.Core.{Core}
 use Rattle.rig_core.specs.declared.Stepped.{Stepped}
 use Rattle.event.specs.contracts.Event as E
-use Rattle.event.specs.Kinds.{is_copy, is_extra, is_resume, is_start, is_tick, of_master, of_running, subject, wants_alive, wants_ready}
-use Rattle.event.specs.declared.Event.TheVariants.{Call, Copy, Extra, Fault, Pause, Restart, Resume, Shutdown, Start, Stop, Tick, Write}
+use Rattle.event.specs.Kinds.{is_copy, is_extra, is_start, is_tick, of_master, of_running, subject, wants_ready}
+use Rattle.event.specs.declared.Event.TheVariants.{Call, Copy, Extra, Fault, Restart, Shutdown, Start, Stop, Tick, Write}
 use Rattle.event.specs.declared.Event.{Event}
-use Rattle.guest.specs.Record.{fresh, saved_at, stands_paused}
+use Rattle.guest.specs.Record.{fresh, is_ready, saved_at}
 use Rattle.guest.specs.declared.Vm.{Vm}
 use Rattle.logic.specs.Changing.{change_from, place_from}
 use Rattle.logic.specs.Rows.{row_from, stray_fault, stray_write}
-use Rattle.queue.specs.Entries.{entries, first_of, ready_among, served, taken}
+use Rattle.queue.specs.Entries.{entries, front_of, popped, served}
 use Rattle.queue.specs.declared.Queue.{Queue}
 use Rattle.queue.specs.declared.Served.{Served}
 use Rattle.table.specs.Position.{next_clock}
@@ -95,8 +95,6 @@ done_config c (Call x y z) = refl
 done_config c (Write x y) = refl
 done_config c (Fault x y) = refl
 done_config c (Copy p w) = refl
-done_config c (Pause v) = refl
-done_config c (Resume v) = refl
 
 pub inner_config : (c : Core) (e : Event) → (inner_of c e).core.config ≡ c.config
 unfolding inner_of refused
@@ -125,23 +123,23 @@ ticked k q t =
 
 tick_parts : (c : Core) (at owner head : ℕ) (k : Clock) (t : Turn) (q : Queue)
     → k ≡ next_clock c.config.slots c.config.durations c.clock → owner ≡ get_or c.config.owners k.slot 0
-    → head ≡ first_of (ready_at c) (entries c.queue) → t ≡ turn c.running at c.config.count owner head k.left c.config.handlers c.vms
-    → q ≡ pick (eqb owner nobody) (taken (ready_at c) c.queue) c.queue
+    → head ≡ front_of (entries c.queue) → t ≡ turn c.running at c.config.count owner head k.left c.config.handlers c.vms
+    → q ≡ pick (eqb owner nobody) (popped c.queue) c.queue
     → ticked k q t ≡ parts_of (done c (Tick at))
 unfolding done tick_turn tick_queue tick_clock
 tick_parts c at owner head k t q hk ho hh ht hq =
-    rw (hq, ht, ho, hh, hk, turn_address c.running at c.config.count (tick_owner c) (first_of (ready_at c) (entries c.queue)) (tick_clock c).left c.config.handlers c.vms)
+    rw (hq, ht, ho, hh, hk, turn_address c.running at c.config.count (tick_owner c) (front_of (entries c.queue)) (tick_clock c).left c.config.handlers c.vms)
 
 -- a tick as the code makes it: the queue says who is served, and what is left
 pub tick_law : (c : Core) (at owner : ℕ) (k : Clock) (s : Served) (t : Turn)
     → k ≡ next_clock c.config.slots c.config.durations c.clock → owner ≡ get_or c.config.owners k.slot 0
-    → s ≡ served (eqb owner nobody) (ready_among c.vms) c.queue → t ≡ turn c.running at c.config.count owner s.vm k.left c.config.handlers c.vms
+    → s ≡ served (eqb owner nobody) c.queue → t ≡ turn c.running at c.config.count owner s.vm k.left c.config.handlers c.vms
     → ticked k s.queue t ≡ parts_of (done c (Tick at))
 tick_law c at owner k s t hk ho hs ht =
-    let turned : t ≡ turn c.running at c.config.count owner (first_of (ready_at c) (entries c.queue)) k.left c.config.handlers c.vms =
+    let turned : t ≡ turn c.running at c.config.count owner (front_of (entries c.queue)) k.left c.config.handlers c.vms =
     ht ∙ ap (λ (x : Served). turn c.running at c.config.count owner x.vm k.left c.config.handlers c.vms) hs
-    ∙ turn_served c.vms c.config.handlers c.running at c.config.count owner (first_of (ready_at c) (entries c.queue)) nobody k.left in
-    tick_parts c at owner (first_of (ready_at c) (entries c.queue)) k t s.queue hk ho refl turned (ap (λ (x : Served). x.queue) hs)
+    ∙ turn_served c.vms c.config.handlers c.running at c.config.count owner (front_of (entries c.queue)) nobody k.left in
+    tick_parts c at owner (front_of (entries c.queue)) k t s.queue hk ho refl turned (ap (λ (x : Served). x.queue) hs)
 
 -- ---- an event that is about one VM
 
@@ -168,8 +166,8 @@ module _ (l : List Vm) (i : ℕ) (long : length l ≡ 8) where
       go true f g = g ∙ ap (λ x. (get_or l x fresh).address) (mod-eq_of_lt (ltb-true i 8 f))
       go false f g = g ∙ ap (λ (v : Vm). v.address) (sym (get_or-eq_default l fresh (omega (arith, ltb-false i 8 f))))
 
--- the row asks for the standing of the VM that the master names alone
-pub row_is : (c : Core) (e : Event) → row_from e c.clock.started c.config.count c.running (vm_at c (place_from e c.running)).standing c.config.room c.queue.len ≡ row_of c e
+-- the row asks for readiness of the VM that the master names alone
+pub row_is : (c : Core) (e : Event) → row_from e c.clock.started c.config.count c.running (ready_at c (place_from e c.running)) c.config.room c.queue.len ≡ row_of c e
 unfolding row_of
 row_is c Start = refl
 row_is c (Tick a) = refl
@@ -181,26 +179,24 @@ row_is c (Call x y z) = refl
 row_is c (Write x y) = refl
 row_is c (Fault x y) = refl
 row_is c (Copy p w) = refl
-row_is c (Pause v) = refl
-row_is c (Resume v) = refl
 
 -- no row of these has the number of an unsound state
-not_row : (b : Bool) (n next : ℕ) → (n ≡ 1 → ⊥) → (next ≡ 1 → ⊥) → pick b n next ≡ 1 → ⊥
-not_row true n next h k z = h z
-not_row false n next h k z = k z
+not_first : (a b c d e f g h : Bool) → ◌≡◌ {A = ℕ} (pick a 7 (pick b 2 (pick c 3 (pick d 4 (pick e 6 (pick f 5 (pick g 8 (pick h 9 0)))))))) 1 → ⊥
+not_first true b c d e f g h z = absurd (omega arith)
+not_first false true c d e f g h z = absurd (omega arith)
+not_first false false true d e f g h z = absurd (omega arith)
+not_first false false false true e f g h z = absurd (omega arith)
+not_first false false false false true f g h z = absurd (omega arith)
+not_first false false false false false true g h z = absurd (omega arith)
+not_first false false false false false false true h z = absurd (omega arith)
+not_first false false false false false false false true z = absurd (omega arith)
+not_first false false false false false false false false z = absurd (omega arith)
 
 pub not_1 : (c : Core) (e : Event) → row_of c e ≡ 1 → ⊥
 unfolding row_of
 not_1 c e =
-    not_row (both (is_start e) (eqb c.clock.started 1)) 7 _ (λ z. omega arith)
-    (not_row (both (not (is_start e)) (not (eqb c.clock.started 1))) 2 _ (λ z. omega arith)
-    (not_row (both (of_master e) (not (ltb (subject e) c.config.count))) 3 _ (λ z. omega arith)
-    (not_row (both (wants_ready e) (not (ready_at c (subject e)))) 4 _ (λ z. omega arith)
-    (not_row (both (wants_alive e) (not (alive_at c (subject e)))) 4 _ (λ z. omega arith)
-    (not_row (both (is_resume e) (not (stands_paused (vm_at c (subject e)).standing))) 11 _ (λ z. omega arith)
-    (not_row (both (is_extra e) (leb c.config.room c.queue.len)) 6 _ (λ z. omega arith)
-    (not_row (both (of_running e) (eqb c.running nobody)) 5 _ (λ z. omega arith)
-    (not_row (stray_write e) 8 _ (λ z. omega arith) (not_row (stray_fault e) 9 0 (λ z. omega arith) (λ z. omega arith))))))))))
+    not_first (both (is_start e) (eqb c.clock.started 1)) (both (not (is_start e)) (not (eqb c.clock.started 1))) (both (of_master e) (not (ltb (subject e) c.config.count)))
+    (both (wants_ready e) (not (ready_at c (subject e)))) (both (is_extra e) (leb c.config.room c.queue.len)) (both (of_running e) (eqb c.running nobody)) (stray_write e) (stray_fault e)
 
 -- refused by its row
 pub after_row : (c : Core) (e : Event) (n : ℕ) (r : After) → n ≡ row_of c e → (n ≡ 0 → ⊥) → r ≡ kept c n → r ≡ parts_of (inner_of c e)
@@ -228,8 +224,6 @@ change_place (Call service argument next) v vm running queue noRoom left entry h
 change_place (Write x y) v vm running queue noRoom left entry handler = refl
 change_place (Fault x y) v vm running queue noRoom left entry handler = refl
 change_place (Copy p w) v vm running queue noRoom left entry handler = refl
-change_place (Pause x) v vm running queue noRoom left entry handler = refl
-change_place (Resume x) v vm running queue noRoom left entry handler = refl
 
 -- what the code makes of a change: the record at the place, who runs, the queue, the answer
 abbrev applied : Core → ℕ → ℕ → Change → After
@@ -248,20 +242,20 @@ module _ (c : Core) (e : Event) where
   unfolding change_in
   applied_not n h z = rw (set-get_or c.vms at_place fresh, ← h, ne_eqb n 0 z) (kept-is c n (λ o. not_1 c e (sym h ∙ o)))
 
-  pub change-law : (q : Queue) (place n entry handler address : ℕ) (vm y : Vm) (d : Change) (a : Answer) → length c.vms ≡ 8
-      → q ≡ c.queue → place ≡ at_place → vm ≡ pick (ltb place 8) (get_or c.vms (place % 8) fresh) fresh
-      → n ≡ row_from e c.clock.started c.config.count c.running vm.standing c.config.room q.len
+  pub change-law : (q : Queue) (place n entry handler address : ℕ) (vm y : Vm) (ready : Bool) (d : Change) (a : Answer) → length c.vms ≡ 8
+      → q ≡ c.queue → place ≡ at_place → vm ≡ pick (ltb place 8) (get_or c.vms (place % 8) fresh) fresh → ready ≡ is_ready vm
+      → n ≡ row_from e c.clock.started c.config.count c.running ready c.config.room q.len
       → entry ≡ get_or c.config.entries place 0 → handler ≡ get_or c.config.handlers place 0
       → d ≡ pick (eqb n 0) (change_from e place vm c.running q (leb c.config.room q.len) 0 entry handler) (renewed_from c.running q place vm nobody)
       → y ≡ pick (ltb place 8) d.vm (get_or c.vms (place % 8) fresh)
       → address ≡ pick (ltb d.running 8) (get_or (set c.vms (place % 8) y) (d.running % 8) fresh).address 0
       → a ≡ answer_by d n d.running address
       → record { vms = set c.vms (place % 8) y; clock = c.clock; running = d.running; queue = d.queue; answer = a } ≡ parts_of (change_in c e)
-  change-law q place n entry handler address vm y d a long hq hp hvm hn hentry hhandler hd hy haddress ha =
+  change-law q place n entry handler address vm y ready d a long hq hp hvm hready hn hentry hhandler hd hy haddress ha =
       let st : set c.vms (place % 8) y ≡ set c.vms place d.vm = store_law c.vms place long d.vm y hy in
       let ad = address_law (set c.vms place d.vm) d.running (length-set c.vms place d.vm ∙ long) address (rw st at haddress) in
       let old : vm ≡ vm_at c place = read_law c.vms place long vm hvm in
-      let row : n ≡ row_of c e = (rw (old, hp, hq) at hn) ∙ row_is c e in
+      let row : n ≡ row_of c e = (rw (hready, old, hp, hq) at hn) ∙ row_is c e in
       rw (ha, st, ad) (go row (eqb n 0) refl (rw (old, hentry, hhandler, hq) at hd))
     where
       go : n ≡ row_of c e → (b : Bool) → eqb n 0 ≡ b → d ≡ pick b (change_at c e place) (renewed_from c.running c.queue place (vm_at c place) nobody) → applied c place n d ≡ parts_of (change_in c e)
@@ -281,17 +275,15 @@ plain c (Call x y z) t s k = refl
 plain c (Write x y) t s k = refl
 plain c (Fault x y) t s k = refl
 plain c (Copy p w) t s k = false_true (sym k)
-plain c (Pause v) t s k = refl
-plain c (Resume v) t s k = refl
 
 change_is : (c : Core) (e : Event) → is_tick e ≡ false → is_start e ≡ false → is_copy e ≡ false → change_in c e ≡ inner_of c e
 unfolding change_in inner_of
 change_is c e t s k = rw (plain c e t s k)
 
 -- the arm of all events but Start, Tick and Copy
-pub other_arm : (c : Core) (e : Event) → OneOf (2 ∷ 3 ∷ 4 ∷ 5 ∷ 6 ∷ 7 ∷ 8 ∷ 10 ∷ 11 ∷ []) (tag_of E.the_type e) → change_in c e ≡ inner_of c e
-other_arm c Start k = absurd (miss (2 ∷ 3 ∷ 4 ∷ 5 ∷ 6 ∷ 7 ∷ 8 ∷ 10 ∷ 11 ∷ []) 0 tt k)
-other_arm c (Tick a) k = absurd (miss (2 ∷ 3 ∷ 4 ∷ 5 ∷ 6 ∷ 7 ∷ 8 ∷ 10 ∷ 11 ∷ []) 1 tt k)
+pub other_arm : (c : Core) (e : Event) → OneOf (2 ∷ 3 ∷ 4 ∷ 5 ∷ 6 ∷ 7 ∷ 8 ∷ []) (tag_of E.the_type e) → change_in c e ≡ inner_of c e
+other_arm c Start k = absurd (miss (2 ∷ 3 ∷ 4 ∷ 5 ∷ 6 ∷ 7 ∷ 8 ∷ []) 0 tt k)
+other_arm c (Tick a) k = absurd (miss (2 ∷ 3 ∷ 4 ∷ 5 ∷ 6 ∷ 7 ∷ 8 ∷ []) 1 tt k)
 other_arm c (Stop v) k = change_is c (Stop v) refl refl refl
 other_arm c (Shutdown v) k = change_is c (Shutdown v) refl refl refl
 other_arm c (Restart v) k = change_is c (Restart v) refl refl refl
@@ -299,9 +291,7 @@ other_arm c (Extra v) k = change_is c (Extra v) refl refl refl
 other_arm c (Call x y z) k = change_is c (Call x y z) refl refl refl
 other_arm c (Write x y) k = change_is c (Write x y) refl refl refl
 other_arm c (Fault x y) k = change_is c (Fault x y) refl refl refl
-other_arm c (Copy p w) k = absurd (miss (2 ∷ 3 ∷ 4 ∷ 5 ∷ 6 ∷ 7 ∷ 8 ∷ 10 ∷ 11 ∷ []) 9 tt k)
-other_arm c (Pause v) k = change_is c (Pause v) refl refl refl
-other_arm c (Resume v) k = change_is c (Resume v) refl refl refl
+other_arm c (Copy p w) k = absurd (miss (2 ∷ 3 ∷ 4 ∷ 5 ∷ 6 ∷ 7 ∷ 8 ∷ []) 9 tt k)
 
 -- ---- a Copy
 

@@ -6,13 +6,13 @@ use Rattle.basis.specs.Choice.{both}
 use Rattle.checks.specs.Sound.{sound_from}
 use Rattle.config.proofs.Legality.{legal_apart}
 use Rattle.config.specs.Sizes.{bare, legal}
-use Rattle.rig_core.specs.Sound.{none_ready, queued_alive, sound, standings_known}
+use Rattle.rig_core.specs.Sound.{none_ready, queued_ready, sound, standings_known}
 use Rattle.rig_core.specs.declared.Core.{Core}
 use Rattle.regions.specs.Rules.{lawful}
 
 -- W1: the regions apart from the rest
 sound_apart : (c : Core) (x y : Bool) → x ≡ sound_from (bare c.config) c.clock c.running c.queue c.vms → y ≡ lawful c.config.count c.config.regions → both y x ≡ sound c
-unfolding sound_from sound queued_alive none_ready standings_known
+unfolding sound_from sound queued_ready none_ready standings_known
 sound_apart c x y e f =
     rw (e, f)
     (first (lawful c.config.count c.config.regions) (legal (bare c.config)) (legal c.config) _ (legal_apart c.config (legal (bare c.config)) (lawful c.config.count c.config.regions) refl refl))

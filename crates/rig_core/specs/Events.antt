@@ -1,4 +1,4 @@
--- What each event does (D1 to D41), and an event as a whole: refused, or done.
+-- What each event does (D1 to D36), and an event as a whole: refused, or done.
 use Rattle.std.specs.Prelude.{ℕ, eqb}
 use Rattle.basis.specs.Choice.{pick}
 use Rattle.basis.specs.Nobody.{nobody}
@@ -10,15 +10,15 @@ use Rattle.copies.specs.Failing.{copy_failure, may}
 use Rattle.copies.specs.declared.Failure.{Failure}
 use Rattle.rig_core.specs.Changes.{answering, changed_by, ending, failing, queueing, renewed, restarting}
 use Rattle.rig_core.specs.Refusals.{refusal_of, refused, row_of}
-use Rattle.rig_core.specs.State.{with_clock, with_queue, with_running, with_vms, full, ready_at, vm_at}
+use Rattle.rig_core.specs.State.{with_clock, with_queue, with_running, with_vms, full, vm_at}
 use Rattle.rig_core.specs.declared.Core.{Core}
 use Rattle.rig_core.specs.declared.Stepped.{Stepped}
-use Rattle.event.specs.declared.Event.TheVariants.{Call, Copy, Extra, Fault, Pause, Restart, Resume, Shutdown, Start, Stop, Tick, Write}
+use Rattle.event.specs.declared.Event.TheVariants.{Call, Copy, Extra, Fault, Restart, Shutdown, Start, Stop, Tick, Write}
 use Rattle.event.specs.declared.Event.{Event}
-use Rattle.guest.specs.Record.{paused_standing, pend, ready_standing, saved_at, stopped_standing, with_standing}
+use Rattle.guest.specs.Record.{pend, saved_at, stopped_standing}
 use Rattle.guest.specs.Write.{write}
 use Rattle.guest.specs.declared.Vm.{Vm}
-use Rattle.queue.specs.Entries.{entries, first_of, taken}
+use Rattle.queue.specs.Entries.{entries, front_of, popped}
 use Rattle.queue.specs.declared.Queue.{Queue}
 use Rattle.table.specs.Position.{next_clock, started_clock}
 use Rattle.table.specs.declared.Clock.{Clock}
@@ -41,11 +41,11 @@ tick_owner c = owner_at c.config (tick_clock c).slot
 
 -- D3, D4, D6, D7, D8, D9: the VM records, who runs, what is delivered
 unfoldable pub tick_turn : Core → ℕ → Turn
-tick_turn c at = turn c.running at c.config.count (tick_owner c) (first_of (ready_at c) (entries c.queue)) (tick_clock c).left c.config.handlers c.vms
+tick_turn c at = turn c.running at c.config.count (tick_owner c) (front_of (entries c.queue)) (tick_clock c).left c.config.handlers c.vms
 
--- D7: a spare slot takes the oldest entry whose VM is ready
+-- D7: a spare slot takes the oldest entry
 unfoldable pub tick_queue : Core → Queue
-tick_queue c = pick (is_spare (tick_owner c)) (taken (ready_at c) c.queue) c.queue
+tick_queue c = pick (is_spare (tick_owner c)) (popped c.queue) c.queue
 
 -- D3 to D9
 abbrev pub tick_core : Core → ℕ → Core
@@ -75,8 +75,6 @@ done c (Call service argument next) = changed_by c (called c c.running service a
 done c (Write offset value) = changed_by c (renewed c c.running (write offset value (vm_at c c.running)) nobody)
 done c (Fault code detail) = changed_by c (failing c c.running (vm_at c c.running) code detail)
 done c (Copy p w) = changed_by c (copying c w p)
-done c (Pause v) = changed_by c (renewed c v (with_standing paused_standing (vm_at c v)) nobody)
-done c (Resume v) = changed_by c (renewed c v (with_standing ready_standing (vm_at c v)) nobody)
 
 -- an event on a state that is known to be sound: refused, or done
 unfoldable pub inner_of : Core → Event → Stepped

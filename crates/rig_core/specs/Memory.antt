@@ -4,7 +4,7 @@ use Rattle.basis.specs.Choice.{both, pick}
 use Rattle.rig_core.specs.Events.{failure_of}
 use Rattle.rig_core.specs.Refusals.{refusal_of, row_of}
 use Rattle.rig_core.specs.declared.Core.{Core}
-use Rattle.event.specs.declared.Event.TheVariants.{Call, Copy, Extra, Fault, Pause, Restart, Resume, Shutdown, Start, Stop, Tick, Write}
+use Rattle.event.specs.declared.Event.TheVariants.{Call, Copy, Extra, Fault, Restart, Shutdown, Start, Stop, Tick, Write}
 use Rattle.event.specs.declared.Event.{Event}
 use Rattle.window.specs.Pieces.{copied_all, extents, window_of}
 use Rattle.window.specs.declared.Pieces.{Pieces}
@@ -30,8 +30,6 @@ memory_as n c (Call service argument next) m = m
 memory_as n c (Write offset value) m = m
 memory_as n c (Fault code detail) m = m
 memory_as n c (Copy p w) m = pick (copies_as n c w p) (copied_by w.base p m) m
-memory_as n c (Pause v) m = m
-memory_as n c (Resume v) m = m
 
 -- the bytes after an event
 abbrev pub memory_after : Core → Event → List ℕ → List ℕ

@@ -4,7 +4,7 @@ use Rattle.basis.specs.Choice.{pick, unless}
 use Rattle.basis.specs.Nobody.{nobody}
 use Rattle.change.specs.Answers.{quietly}
 use Rattle.rig_core.specs.Sound.{sound}
-use Rattle.rig_core.specs.State.{address_of, vm_at}
+use Rattle.rig_core.specs.State.{address_of, ready_at}
 use Rattle.rig_core.specs.declared.Core.{Core}
 use Rattle.rig_core.specs.declared.Stepped.{Stepped}
 use Rattle.event.specs.Kinds.{subject}
@@ -13,7 +13,7 @@ use Rattle.logic.specs.Rows.{row_from}
 
 -- R1, the rows from 7 on; 0 where none applies
 unfoldable pub row_of : Core → Event → ℕ
-row_of c e = row_from e c.clock.started c.config.count c.running (vm_at c (subject e)).standing c.config.room c.queue.len
+row_of c e = row_from e c.clock.started c.config.count c.running (ready_at c (subject e)) c.config.room c.queue.len
 
 -- R1: row 1 stands above them all
 unfoldable pub refusal_of : Core → Event → ℕ

@@ -5,10 +5,10 @@ use Rattle.basis.specs.Choice.{both, either}
 use Rattle.basis.specs.Count.{every}
 use Rattle.basis.specs.Nobody.{nobody}
 use Rattle.config.specs.Sizes.{Legal, duration_at, is_spare, legal}
-use Rattle.rig_core.specs.State.{alive_at, idle, owner_now, ready_at, vm_at}
+use Rattle.rig_core.specs.State.{idle, owner_now, ready_at, vm_at}
 use Rattle.rig_core.specs.declared.Core.{Core}
 use Rattle.guest.specs.Record.{fresh, last_standing, standing_known}
-use Rattle.queue.specs.Entries.{Counted, counted_of, entries, padded_of}
+use Rattle.queue.specs.Entries.{Counted, counted_of, entries, padded_of, rest}
 use Rattle.table.specs.Position.{has_ticked, is_started}
 use Rattle.vms.specs.Records.{rest_fresh}
 
@@ -25,8 +25,8 @@ abbrev pub few_queued : Core → Bool
 few_queued c = leb c.queue.len c.config.room
 
 -- W4
-unfoldable pub queued_alive : Core → Bool
-queued_alive c = every (λ k. alive_at c (get_or c.queue.items k 0)) c.queue.len
+unfoldable pub queued_ready : Core → Bool
+queued_ready c = every (λ k. ready_at c (get_or c.queue.items k 0)) c.queue.len
 
 -- W5
 abbrev pub places_empty : Core → Bool
@@ -55,8 +55,8 @@ abbrev pub left_sound : Core → Bool
 left_sound c = either (not (has_ticked c.clock)) (within 1 (duration_at c.config c.clock.slot) c.clock.left)
 
 -- W10
-abbrev pub runner_alive : Core → Bool
-runner_alive c = either (idle c) (alive_at c c.running)
+abbrev pub runner_ready : Core → Bool
+runner_ready c = either (idle c) (ready_at c c.running)
 
 -- W11
 abbrev pub runner_named : Core → Bool
@@ -79,13 +79,13 @@ sound c =
     both (config_sound c)
     (both (rest_sound c)
     (both (few_queued c)
-    (both (queued_alive c)
+    (both (queued_ready c)
     (both (places_empty c)
     (both (idle_at_first c)
     (both (start_sound c)
     (both (slot_sound c)
     (both (left_sound c)
-    (both (runner_alive c)
+    (both (runner_ready c)
     (both (runner_named c)
     (both (numbers_known c)
     (counts_true c))))))))))))
@@ -95,14 +95,14 @@ pub record Sound (c : Core) : Type 0 where
   pub legal : Legal c.config
   pub rest : (k : ℕ) → c.config.count ≤ k → k < 8 → vm_at c k ≡ fresh
   pub few : c.queue.len ≤ c.config.room
-  pub queued : (k : ℕ) → k < c.queue.len → alive_at c (get_or c.queue.items k 0) ≡ true
+  pub queued : (k : ℕ) → k < c.queue.len → ready_at c (get_or c.queue.items k 0) ≡ true
   pub padded : (k : ℕ) → c.queue.len ≤ k → k < 16 → get_or c.queue.items k 0 ≡ 0
   pub first : has_ticked c.clock ≡ false → c.running ≡ nobody
   pub unstarted : is_started c.clock ≡ false
       → ((k : ℕ) → k < 8 → ready_at c k ≡ false) × (c.queue.len ≡ 0) × (c.running ≡ nobody) × (has_ticked c.clock ≡ false)
   pub slot : has_ticked c.clock ≡ true → c.clock.slot < c.config.slots
   pub left : has_ticked c.clock ≡ true → (1 ≤ c.clock.left) × (c.clock.left ≤ duration_at c.config c.clock.slot)
-  pub alive : (c.running ≡ nobody → ⊥) → alive_at c c.running ≡ true
+  pub ready : (c.running ≡ nobody → ⊥) → ready_at c c.running ≡ true
   pub named : (c.running ≡ nobody → ⊥) → (owner_now c ≡ c.running) ⊎ (owner_now c ≡ nobody)
   pub flags : (c.clock.started ≤ 1) × (c.clock.ticked ≤ 1)
   pub standings : (k : ℕ) → k < 8 → (vm_at c k).standing ≤ last_standing

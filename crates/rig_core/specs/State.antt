@@ -5,7 +5,7 @@ use Rattle.config.specs.Ranges.{Sized}
 use Rattle.config.specs.Sizes.{owner_at}
 use Rattle.config.specs.declared.Config.{Config}
 use Rattle.rig_core.specs.declared.Core.{Core}
-use Rattle.guest.specs.Record.{fresh, is_alive, is_ready}
+use Rattle.guest.specs.Record.{fresh, is_ready}
 use Rattle.guest.specs.declared.Vm.{Vm}
 use Rattle.queue.specs.Entries.{Places, no_entries}
 use Rattle.queue.specs.declared.Queue.{Queue}
@@ -18,10 +18,6 @@ vm_at c i = get_or c.vms i fresh
 
 abbrev pub ready_at : Core → ℕ → Bool
 ready_at c i = is_ready (vm_at c i)
-
--- ready or paused
-abbrev pub alive_at : Core → ℕ → Bool
-alive_at c i = is_alive (vm_at c i)
 
 abbrev pub idle : Core → Bool
 idle c = eqb c.running nobody

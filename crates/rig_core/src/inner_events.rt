@@ -120,8 +120,8 @@ impl Core {
         let queue = self.queue;
         let clock = self.clock.next(config.slots, &durations);
         let owner = table::owner_at(clock.slot, &owners);
+        let served = queue.served(owner == Config::SPARE);
         let old = self.vms;
-        let served = queue.served_by(owner == Config::SPARE, old);
         let t = vms::turned(
             old,
             self.running,
@@ -187,15 +187,8 @@ impl Core {
         let i = (place % 8) as usize;
         let old = w[i];
         let vm = old.or_fresh(place < 8);
-        let n = logic::row_of(
-            e,
-            stands.started,
-            count,
-            running,
-            vm.standing,
-            room,
-            queue.len,
-        );
+        let ready = vm.is_ready();
+        let n = logic::row_of(e, stands.started, count, running, ready, room, queue.len);
         let full = room <= queue.len;
         let entry = places::word_at(&entries, place as usize);
         let handler = places::word_at(&handlers, place as usize);

@@ -101,20 +101,6 @@ impl Core {
         after
     }
 
-    // D38 to D40.
-    pub fn pause(self, v: u8) -> Stepped
-        ensures { result ≡ step_of self (Event.Pause v) }
-    {
-        self.step(Event::Pause(v))
-    }
-
-    // D41.
-    pub fn resume(self, v: u8) -> Stepped
-        ensures { result ≡ step_of self (Event.Resume v) }
-    {
-        self.step(Event::Resume(v))
-    }
-
     // Any event: the state after it, with the answer (T8), or its refusal (R1).
     pub fn step(self, e: Event) -> Stepped
         ensures { result ≡ step_of self e }

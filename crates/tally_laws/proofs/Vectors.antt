@@ -10,7 +10,7 @@ use Rattle.config.specs.Sizes.{durations_fit, has_slot, legal, owners_fit, slots
 use Rattle.config.specs.declared.Config.{Config}
 use Rattle.rig_core.specs.Events.{done, inner_of, start_core, step_of, tick_clock, tick_queue, tick_turn}
 use Rattle.rig_core.specs.Refusals.{refusal_of, refused, row_of}
-use Rattle.rig_core.specs.Sound.{none_ready, queued_alive, sound, standings_known}
+use Rattle.rig_core.specs.Sound.{none_ready, queued_ready, sound, standings_known}
 use Rattle.events.specs.Log.{events_at, events_by, events_from}
 use Rattle.event.specs.Kinds.{asked_by}
 use Rattle.events.specs.Reader.{decoded, placed, read_at, size, whole_of}
@@ -22,7 +22,7 @@ use Rattle.history.specs.History.{Moment, history, moments, ticking, times}
 use Rattle.history.specs.Moments.{naming}
 use Rattle.image_reader.specs.Reader.{read_end, read_image, read_regions, read_slots, read_vms, refused as refusedImage}
 use Rattle.image_reader.specs.Records.{core_fault, owner_fault, slot_fault, vm_fault}
-use Rattle.queue.specs.Entries.{any_of, counted_of, entries_of, first_of, others, padded_of, pushed, taken, without_first}
+use Rattle.queue.specs.Entries.{counted_of, entries_of, front_of, others, padded_of, popped, pushed, rest}
 use Rattle.regions.specs.Rules.{alike_all, all_agree, bytes_rest, few_each, held, holders_fit, kept, lawful, permissions_fit, ranges_fit, words_rest}
 use Rattle.table.specs.Place.{table_to}
 use Rattle.table.specs.Position.{next_clock}
@@ -48,7 +48,7 @@ run : List Moment
 run = history step_of (example 1) example_events
 
 figures : figures_of (example 1) run 0 ∷ figures_of (example 1) run 1 ∷ last_of run ∷ [] ≡ (2 ∷ 1 ∷ 1 ∷ []) ∷ (1 ∷ 0 ∷ 0 ∷ []) ∷ (1 ∷ 5 ∷ []) ∷ []
-unfolding run table_tick spare_tick missed_tick idle_tick step_of refusal_of row_of sound queued_alive none_ready standings_known done start_core tick_clock tick_turn tick_queue called_from running_without refused inner_of legal durations_fit owners_fit vms_served has_slot vms_rest slots_rest every some up_to joined is_field stored write due deliver enter shown highest set_bit clear_bit pend is_fresh is_blank first_of any_of without_first taken others pushed padded_of counted_of entries_of next_clock each rest_fresh saving runner_of entering turn_by passed turn moments times table_to naming lawful kept holders_fit permissions_fit ranges_fit few_each held how_many alike_all all_agree bytes_rest words_rest zeros
+unfolding run table_tick spare_tick missed_tick idle_tick step_of refusal_of row_of sound queued_ready none_ready standings_known done start_core tick_clock tick_turn tick_queue called_from running_without refused inner_of legal durations_fit owners_fit vms_served has_slot vms_rest slots_rest every some up_to joined is_field stored write due deliver enter shown highest set_bit clear_bit pend is_fresh is_blank front_of rest others popped pushed padded_of counted_of entries_of next_clock each rest_fresh saving runner_of entering turn_by passed turn moments times table_to naming lawful kept holders_fit permissions_fit ranges_fit few_each held how_many alike_all all_agree bytes_rest words_rest zeros
 figures = refl
 
 -- two VMs' figures as text

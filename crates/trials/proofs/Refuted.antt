@@ -14,9 +14,9 @@ use Rattle.config.specs.Sizes.{durations_fit, has_slot, legal, owners_fit, slots
 use Rattle.copies.specs.Failing.{copy_failure, extent_failure, first_failure}
 use Rattle.rig_core.specs.Events.{done, inner_of, start_core, step_of, tick_clock, tick_queue, tick_turn}
 use Rattle.rig_core.specs.Refusals.{refusal_of, refused, row_of}
-use Rattle.rig_core.specs.Sound.{none_ready, queued_alive, sound, standings_known}
+use Rattle.rig_core.specs.Sound.{none_ready, queued_ready, sound, standings_known}
 use Rattle.rig_core.specs.State.{fresh_core}
-use Rattle.event.specs.declared.Event.TheVariants.{Call, Extra, Fault, Pause, Restart, Resume, Shutdown, Start, Stop, Tick, Write}
+use Rattle.event.specs.declared.Event.TheVariants.{Call, Extra, Fault, Restart, Shutdown, Start, Stop, Tick, Write}
 use Rattle.event.specs.declared.Event.{Event}
 use Rattle.grants.specs.Access.{allowed, allows, granted, granted_all}
 use Rattle.guest.specs.Bits.{clear_bit, highest, set_bit}
@@ -26,16 +26,15 @@ use Rattle.guest.specs.Write.{is_field, stored, write}
 use Rattle.guest.specs.declared.Found.TheVariants.{At}
 use Rattle.guest.specs.declared.Status.{Status}
 use Rattle.guest.specs.declared.Vm.{Vm}
-use Rattle.history.specs.Following.{entries_but, entries_not, mine_next, served_in}
 use Rattle.history.specs.History.{count_after, moments, state_after, times, told}
 use Rattle.history.specs.Moments.{asks, begins, naming}
-use Rattle.history.specs.Queueing.{effect, removed_in}
-use Rattle.history.specs.Telling.{ends, scene_after, standing_after, started_after, times_told}
+use Rattle.history.specs.Queueing.{effect, entries_not, removed_in, served_in}
+use Rattle.history.specs.Telling.{ends, queue_after, standing_after, started_after}
 use Rattle.promises.proofs.Due.{found-highest}
 use Rattle.promises.specs.Delivering.{Highest, Offer}
-use Rattle.promises.specs.Framing.{Enabled, OnTick, Previous, Reason, Restore, ResumeAt}
+use Rattle.promises.specs.Framing.{Enabled, OnTick, Previous, Reason, Restore, Resume}
 use Rattle.promises.specs.Refusing.{first_of, lines_of}
-use Rattle.queue.specs.Entries.{any_of, counted_of, entries_of, first_of as oldestOf, others, padded_of, pushed, taken, without_first}
+use Rattle.queue.specs.Entries.{counted_of, entries_of, front_of, others, padded_of, popped, pushed, rest}
 use Rattle.regions.specs.Rules.{alike_all, all_agree, bytes_rest, few_each, held, holders_fit, kept, lawful, permissions_fit, ranges_fit, words_rest}
 use Rattle.table.specs.Place.{table_to}
 use Rattle.table.specs.Position.{next_clock}
@@ -77,24 +76,24 @@ record Computed : Type 0 where
   occurs : NotEmpty
 
 computed : Computed
-unfolding step_of refusal_of row_of sound queued_alive none_ready standings_known done start_core tick_clock tick_turn tick_queue called_from running_without refused inner_of legal durations_fit owners_fit vms_served has_slot vms_rest slots_rest every some up_to joined is_field stored write due deliver enter shown highest set_bit clear_bit pend is_fresh is_blank oldestOf any_of without_first taken others pushed padded_of counted_of next_clock each rest_fresh saving runner_of entering turn_by passed turn moments state_after count_after times told standing_after started_after scene_after times_told ends table_to naming asks begins entries_of effect entries_not entries_but mine_next served_in removed_in first_of lines_of deliver_empty deliver_low lowest lawful kept holders_fit permissions_fit ranges_fit few_each held how_many alike_all all_agree bytes_rest words_rest zeros copying_from copy_failure first_failure extent_failure inside copied_all copied allowed granted_all granted allows
+unfolding step_of refusal_of row_of sound queued_ready none_ready standings_known done start_core tick_clock tick_turn tick_queue called_from running_without refused inner_of legal durations_fit owners_fit vms_served has_slot vms_rest slots_rest every some up_to joined is_field stored write due deliver enter shown highest set_bit clear_bit pend is_fresh is_blank front_of rest others popped pushed padded_of counted_of next_clock each rest_fresh saving runner_of entering turn_by passed turn moments state_after count_after times told standing_after started_after queue_after ends table_to naming asks begins entries_of effect entries_not served_in removed_in first_of lines_of deliver_empty deliver_low lowest lawful kept holders_fit permissions_fit ranges_fit few_each held how_many alike_all all_agree bytes_rest words_rest zeros copying_from copy_failure first_failure extent_failure inside copied_all copied allowed granted_all granted allows
 computed =
     record {
       refutes = record {
         refuses-all = λ n k h. k (h (fresh_core (example 1)) Start).number;
         hands-back = λ h. (let z : ◌≡◌ {A = ℕ} 0 1 = ap (λ (w : Vm). w.standing) (h (example 1) (given 1 refl) [] Start 0 (omega arith) refl) in omega arith);
-        idle = λ h. false_true ((h (example 1) (given 1 refl) 0 (omega arith) (Start ∷ []) (Tick 0 ∷ [])).runs_named.0 refl);
+        idle = λ h. false_true ((h (example 1) (given 1 refl) 0 (omega arith) (Start ∷ []) (Tick 0 ∷ [])).runs_named.0 refl refl);
         repeats = λ h. (let z : ◌≡◌ {A = ℕ} 0 1 = (h (example 1) (given 1 refl) (Start ∷ Tick 0 ∷ Tick 0 ∷ [])).stands.place in omega arith);
         makes-up = λ h. (let z : ◌≡◌ {A = ℕ} 7 1 = (h (example 1) (given 1 refl) (Start ∷ []) (Tick 0) 0 (omega arith) refl).ran in omega arith);
         charges = λ h. (let z : ◌≡◌ {A = ℕ} 1 0 = (h (example 1) (given 1 refl) (Start ∷ Tick 0 ∷ Extra 0 ∷ Tick 0 ∷ Tick 0 ∷ Tick 0 ∷ Tick 0 ∷ [])).stands.place in omega arith);
-        charges-slices = λ h. false_true ((h (example 1) (given 1 refl) 0 (omega arith) (Start ∷ Tick 0 ∷ Extra 0 ∷ Tick 0 ∷ Tick 0 ∷ Tick 0 ∷ Tick 0 ∷ []) (Tick 0 ∷ [])).runs_named.0 refl);
-        leaves = λ h. (let z : ◌≡◌ {A = ℕ} 0 1 = ap (entries_of 1) (h (example 2) (given 2 refl) 0 (omega arith) (Start ∷ Extra 1 ∷ []) (Extra 0) (Stop 1 ∷ Tick 0 ∷ []) refl).is-queue.1.0 in omega arith);
+        charges-slices = λ h. false_true ((h (example 1) (given 1 refl) 0 (omega arith) (Start ∷ Tick 0 ∷ Extra 0 ∷ Tick 0 ∷ Tick 0 ∷ Tick 0 ∷ Tick 0 ∷ []) (Tick 0 ∷ [])).runs_named.0 refl refl);
+        leaves = λ h. false_true ((h (example 2) (given 2 refl) 0 (omega arith) (Start ∷ Extra 1 ∷ []) (Extra 0) (Stop 1 ∷ Tick 0 ∷ Tick 0 ∷ Tick 0 ∷ Tick 0 ∷ Tick 0 ∷ Tick 0 ∷ Tick 0 ∷ Tick 0 ∷ []) refl).served refl (omega arith));
         leaves-queue = λ h. (let z : ◌≡◌ {A = ℕ} 1 0 = ap (entries_of 1) (h (example 2) (given 2 refl) (Start ∷ Extra 1 ∷ Stop 1 ∷ [])).queue in omega arith);
         newest = λ h. false_true ((h (example 2) (given 2 refl) 1 (omega arith) (Start ∷ []) (Extra 1) (Extra 0 ∷ Tick 0 ∷ Tick 0 ∷ Tick 0 ∷ Tick 0 ∷ []) refl).served refl (omega arith));
         forgets = λ h. (let z : ◌≡◌ {A = ℕ} 0x1010 0x1020 = ((h (example 1) (given 1 refl) (Start ∷ Tick 0 ∷ Tick 0x1010 ∷ []) (Tick 0x1020)).accepted refl).addresses 0 (omega arith) (λ e. omega arith) in omega arith);
         copy = λ h. (let z : ◌≡◌ {A = ℕ} 101 2 = (h (example 1) (given 1 refl) (Start ∷ Tick 0 ∷ Write 36 100 ∷ []) (Tick 0) 0 (omega arith) refl).ran in omega arith);
         stop-moves = λ h. (let z : ◌≡◌ {A = ℕ} 1 0 = (h (example 1) (given 1 refl) (Start ∷ Tick 0 ∷ Stop 1 ∷ [])).stands.place in omega arith);
-        stop-moves-slices = λ h. false_true ((h (example 1) (given 1 refl) 0 (omega arith) (Start ∷ Tick 0 ∷ Stop 1 ∷ []) (Tick 0 ∷ [])).runs_named.0 refl);
+        stop-moves-slices = λ h. false_true ((h (example 1) (given 1 refl) 0 (omega arith) (Start ∷ Tick 0 ∷ Stop 1 ∷ []) (Tick 0 ∷ [])).runs_named.0 refl refl);
         empties = λ h. (let z : ◌≡◌ {A = ℕ} 0 8 = ((((h (example 1) (given 1 refl) both37 (Call 0 0 0x1010)).accepted refl).sync refl).given 7 (highest_is _ 136 136 7 refl refl refl)).1.pending in omega arith);
         lowest = λ h. (let z : ◌≡◌ {A = ℕ} 3 7 = ((((h (example 1) (given 1 refl) both37 (Call 0 0 0x1010)).accepted refl).sync refl).given 7 (highest_is _ 136 136 7 refl refl refl)).0 in omega arith);
         lowest-tick = λ h. (let z : ◌≡◌ {A = ℕ} 3 7 = ((((h (example 1) (given 1 refl) both37 (Tick 0x1010)).accepted refl).to-runner 0 (omega arith) refl).given 7 (highest_is _ 136 136 7 refl refl refl)).0 in omega arith);
@@ -122,7 +121,7 @@ computed =
         loses-restore = λ h. (let z : ◌≡◌ {A = ℕ} 0 5 = (h (example 1) (given 1 refl) (Start ∷ Tick 0 ∷ Write 28 5 ∷ []) (Tick 0)).fields refl 0 (omega arith) Restore refl in omega arith);
         moves-reason = λ h. (let z : ◌≡◌ {A = ℕ} 9 0 = (h (example 1) (given 1 refl) (Start ∷ []) (Extra 0)).fields refl 0 (omega arith) Reason refl in omega arith);
         moves-previous = λ h. (let z : ◌≡◌ {A = ℕ} 9 0 = (h (example 1) (given 1 refl) (Start ∷ []) (Extra 0)).fields refl 0 (omega arith) Previous refl in omega arith);
-        moves-resume = λ h. (let z : ◌≡◌ {A = ℕ} 9 0 = (h (example 1) (given 1 refl) (Start ∷ []) (Extra 0)).fields refl 0 (omega arith) ResumeAt refl in omega arith);
+        moves-resume = λ h. (let z : ◌≡◌ {A = ℕ} 9 0 = (h (example 1) (given 1 refl) (Start ∷ []) (Extra 0)).fields refl 0 (omega arith) Resume refl in omega arith);
         served-uncounted = λ h. false_true (h (example 1) (given 1 refl) (Start ∷ Extra 0 ∷ Tick 0 ∷ Tick 0 ∷ Tick 0 ∷ Tick 0 ∷ []));
         lowers-other = λ h. false_true (h (example 2) (given 2 refl) (Start ∷ Extra 0 ∷ Extra 1 ∷ Tick 0 ∷ Tick 0 ∷ Tick 0 ∷ Tick 0 ∷ []));
         stop-uncounted = λ h. false_true (h (example 1) (given 1 refl) (Start ∷ Extra 0 ∷ Stop 0 ∷ []));
@@ -138,18 +137,11 @@ computed =
         unchecked = λ h. (let z : ◌≡◌ {A = ℕ} 7 8 = ap (λ (l : List ℕ). get_or l 1 0) ((h copy_example (copy_given refl) begun_once (copy_of 2 (piece 0 1 1 ∷ piece 0 1 257 ∷ []))).stays refl (7 ∷ 8 ∷ 9 ∷ [])) in omega arith);
         two-old-wheels = λ h. (let z : ◌≡◌ {A = ℕ} 8 7 = ap (λ (l : List ℕ). get_or l 1 0) ((h copy_example (copy_given refl) begun_once one_byte).copies refl _ _ refl (7 ∷ 8 ∷ 9 ∷ [])) in omega arith);
         overlapping = λ h. (let z : ◌≡◌ {A = ℕ} 7 8 = ap (λ (l : List ℕ). get_or l 2 0) ((h copy_example (copy_given refl) begun_once (copy_of 1 (piece 0 1 2 ∷ []))).copies refl _ _ refl (7 ∷ 8 ∷ 9 ∷ [])) in omega arith);
-        loses-entries = λ h. (let z : ◌≡◌ {A = ℕ} 0 1 = ap (entries_of 0) (h (example 1) (given 1 refl) (Start ∷ Extra 0 ∷ Pause 0 ∷ Resume 0 ∷ [])).queue in omega arith);
-        hands-slot-on = λ h. (let z : ◌≡◌ {A = ℕ} 1 0 = (h (example 1) (given 1 refl) 1 (omega arith) (Start ∷ Extra 1 ∷ Pause 0 ∷ []) (Tick 0 ∷ [])).exactly in omega arith);
-        waits-for-paused = λ h. false_true ((h (example 2) (given 2 refl) 1 (omega arith) (Start ∷ Extra 0 ∷ Pause 0 ∷ []) (Extra 1) (Tick 0 ∷ Tick 0 ∷ Tick 0 ∷ Tick 0 ∷ Tick 0 ∷ Tick 0 ∷ Tick 0 ∷ Tick 0 ∷ []) refl).served refl (omega arith));
-        sends-back = λ h. false_true ((h (example 4) (given 4 refl) 0 (omega arith) (Start ∷ []) (Extra 0) (Extra 1 ∷ Extra 1 ∷ Pause 0 ∷ Tick 0 ∷ Tick 0 ∷ Tick 0 ∷ Tick 0 ∷ Resume 0 ∷ Tick 0 ∷ Tick 0 ∷ Tick 0 ∷ Tick 0 ∷ []) refl).served refl (omega arith));
-        pause-yields = λ h. (let z : ◌≡◌ {A = ℕ} 255 0 = (h (example 1) (given 1 refl) begun_once (Pause 0)).other refl refl in omega arith);
-        pause-ages = λ h. (let z : ◌≡◌ {A = ℕ} 0 1 = (h (example 1) (given 1 refl) (Start ∷ Pause 0 ∷ Tick 0 ∷ [])).age 0 (omega arith) in omega arith);
-        pause-wipes = λ h. (let z : ◌≡◌ {A = ℕ} 0 0x1000 = (h (example 1) (given 1 refl) (Start ∷ []) (Pause 0)).address refl 0 (omega arith) refl in omega arith);
       };
-      occurs = record { asked = refl; goes_on = refl; spares = refl; named = refl; handed-one = refl; ran = refl; served = refl; pauses = refl; spares-all = refl; spares-counted = refl; due-counted = refl; ran-paused = refl; served-late = refl; requests = refl; granted = refl; removed = refl; standing = refl };
+      occurs = record { asked = refl; goes_on = refl; spares = refl; named = refl; handed-one = refl; ran = refl; served = refl; requests = refl; granted = refl; removed = refl; standing = refl };
     }
 
--- C3, M1 to M9
+-- C3, M1 to M8
 pub refuted : Refuted
 refuted = computed.refutes
 

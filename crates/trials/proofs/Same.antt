@@ -16,7 +16,7 @@ use Rattle.rig_core.specs.Refusals.{refused, row_of}
 use Rattle.rig_core.specs.State.{full, vm_at}
 use Rattle.rig_core.specs.declared.Core.{Core}
 use Rattle.rig_core.specs.declared.Stepped.{Stepped}
-use Rattle.event.specs.declared.Event.TheVariants.{Call, Copy, Extra, Fault, Pause, Restart, Resume, Shutdown, Start, Stop, Tick, Write}
+use Rattle.event.specs.declared.Event.TheVariants.{Call, Copy, Extra, Fault, Restart, Shutdown, Start, Stop, Tick, Write}
 use Rattle.event.specs.declared.Event.{Event}
 use Rattle.guest.specs.Deliver.{deliver, enter}
 use Rattle.guest.specs.Record.{saved_at}
@@ -59,5 +59,3 @@ same_delivery c (Call s n at) = go (eqb (row_of c (Call s n at)) 0) (call_delive
 same_delivery c (Write o x) = refl
 same_delivery c (Fault k x) = refl
 same_delivery c (Copy p w) = refl
-same_delivery c (Pause v) = refl
-same_delivery c (Resume v) = refl

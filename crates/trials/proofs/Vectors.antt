@@ -20,7 +20,7 @@ use Rattle.rig_core.proofs.Inner.{step_unsound}
 use Rattle.rig_core.specs.Events.{done, inner_of, start_core, step_of, tick_clock, tick_queue, tick_turn}
 use Rattle.rig_core.specs.Memory.{memory_as}
 use Rattle.rig_core.specs.Refusals.{refusal_of, refused, row_of}
-use Rattle.rig_core.specs.Sound.{config_sound, left_sound, none_ready, queued_alive, slot_sound, sound, standings_known}
+use Rattle.rig_core.specs.Sound.{config_sound, left_sound, none_ready, queued_ready, slot_sound, sound, standings_known}
 use Rattle.rig_core.specs.declared.Core.{Core}
 use Rattle.event.specs.declared.Event.{Event}
 use Rattle.grants.specs.Access.{allowed, allows, granted, granted_all}
@@ -31,13 +31,13 @@ use Rattle.guest.specs.Write.{is_field, stored, write}
 use Rattle.history.specs.History.{moments, state_after}
 use Rattle.image_reader.specs.Reader.{read_end, read_image, read_regions, read_slots, read_vms, refused as refusedImage}
 use Rattle.image_reader.specs.Records.{core_fault, owner_fault, place_fault, region_fault, slot_fault, vm_fault}
-use Rattle.queue.specs.Entries.{any_of, counted_of, entries_of, first_of, others, padded_of, pushed, taken, without_first}
+use Rattle.queue.specs.Entries.{counted_of, entries_of, front_of, others, padded_of, popped, pushed, rest}
 use Rattle.regions.specs.Beside.{agrees_all}
 use Rattle.regions.specs.Rules.{alike_all, all_agree, bytes_rest, few_each, held, holders_fit, kept, lawful, permissions_fit, ranges_fit, words_rest}
 use Rattle.table.specs.Position.{has_ticked, next_clock}
 use Rattle.trials.specs.Broken.{Broken, broken_states, clauses_of, good}
 use Rattle.trials.specs.Copies.{copy_shown, tabled}
-use Rattle.trials.specs.Vectors.{Vector, call_shown, counts_shown, lines_in, pause_shown, removed_shown, vectors}
+use Rattle.trials.specs.Vectors.{Vector, call_shown, counts_shown, lines_in, removed_shown, vectors}
 use Rattle.vms.specs.Records.{each, rest_fresh}
 use Rattle.vms.specs.Tick.{entering, passed, runner_of, saving, turn, turn_by}
 use Rattle.window.specs.Bytes.{copied as copiedBytes}
@@ -57,11 +57,11 @@ record Computed : Type 0 where
   unsound : AllFalse (sound_in broken_states)
 
 computed : Computed
-unfolding vectors lines_in call_shown removed_shown counts_shown pause_shown broken_states clauses_of good refusedImage read_image read_end read_slots read_vms core_fault owner_fault slot_fault vm_fault step_of refusal_of row_of sound queued_alive none_ready standings_known done start_core tick_clock tick_turn tick_queue called_from running_without refused inner_of legal durations_fit owners_fit vms_served has_slot vms_rest slots_rest every some up_to joined is_field stored write due deliver enter shown highest set_bit clear_bit pend is_fresh is_blank first_of any_of without_first taken others pushed padded_of counted_of next_clock each rest_fresh saving runner_of entering turn_by passed turn state_after moments entries_of lawful kept holders_fit permissions_fit ranges_fit few_each held how_many alike_all all_agree bytes_rest words_rest zeros read_regions region_fault place_fault agrees_all copy_shown tabled memory_as copying_from copy_failure first_failure extent_failure inside copied_all copiedBytes allowed granted_all granted allows
+unfolding vectors lines_in call_shown removed_shown counts_shown broken_states clauses_of good refusedImage read_image read_end read_slots read_vms core_fault owner_fault slot_fault vm_fault step_of refusal_of row_of sound queued_ready none_ready standings_known done start_core tick_clock tick_turn tick_queue called_from running_without refused inner_of legal durations_fit owners_fit vms_served has_slot vms_rest slots_rest every some up_to joined is_field stored write due deliver enter shown highest set_bit clear_bit pend is_fresh is_blank front_of rest others popped pushed padded_of counted_of next_clock each rest_fresh saving runner_of entering turn_by passed turn state_after moments entries_of lawful kept holders_fit permissions_fit ranges_fit few_each held how_many alike_all all_agree bytes_rest words_rest zeros read_regions region_fault place_fault agrees_all copy_shown tabled memory_as copying_from copy_failure first_failure extent_failure inside copied_all copiedBytes allowed granted_all granted allows
 computed =
     record { vectors = refl; good = refl; broken = refl; unsound = (refl, (refl, (refl, (refl, (refl, (refl, (refl, (refl, (refl, (refl, (refl, (refl, (refl, (refl, (refl, (refl, (refl, (refl, tt)))))))))))))))))) }
 
--- X1, X2, P1 to P26, C7
+-- X1, X2, P1 to P22, C7
 pub vectors_hold : map (λ (v : Vector). v.found) vectors ≡ map (λ (v : Vector). v.says) vectors
 vectors_hold = computed.vectors
 

@@ -2,11 +2,11 @@
 use Rattle.std.specs.Prelude.{ℕ, Bool, false, true, List, [], ◌∷◌}
 use Rattle.config.specs.declared.Config.{Config}
 use Rattle.rig_core.specs.Events.{step_of}
-use Rattle.rig_core.specs.Sound.{config_sound, counts_true, few_queued, idle_at_first, left_sound, numbers_known, places_empty, queued_alive, rest_sound, runner_named, runner_alive, slot_sound, start_sound}
+use Rattle.rig_core.specs.Sound.{config_sound, counts_true, few_queued, idle_at_first, left_sound, numbers_known, places_empty, queued_ready, rest_sound, runner_named, runner_ready, slot_sound, start_sound}
 use Rattle.rig_core.specs.State.{vm_at, with_clock, with_config, with_queue, with_running, with_vm}
 use Rattle.rig_core.specs.declared.Core.{Core}
 use Rattle.event.specs.declared.Event.TheVariants.{Extra, Start, Tick}
-use Rattle.guest.specs.Record.{fresh, older, stopped_standing, with_standing}
+use Rattle.guest.specs.Record.{ended_as, fresh, older, stopped_standing}
 use Rattle.history.specs.History.{state_of}
 use Rattle.queue.specs.Entries.{holding, no_entries}
 use Rattle.regions.specs.Rules.{listed, none}
@@ -16,7 +16,7 @@ use Rattle.trials.specs.Examples.{example, zeros}
 -- W1 to W13, in this order
 unfoldable pub clauses_of : Core → List Bool
 clauses_of c =
-    config_sound c ∷ rest_sound c ∷ few_queued c ∷ queued_alive c ∷ places_empty c ∷ idle_at_first c ∷ start_sound c ∷ slot_sound c ∷ left_sound c ∷ runner_alive c ∷ runner_named c
+    config_sound c ∷ rest_sound c ∷ few_queued c ∷ queued_ready c ∷ places_empty c ∷ idle_at_first c ∷ start_sound c ∷ slot_sound c ∷ left_sound c ∷ runner_ready c ∷ runner_named c
     ∷ numbers_known c ∷ counts_true c ∷ []
 
 -- a sound state: two VMs, a queue of 2 with one entry of VM 1, VM 0 in the first of its two ticks
@@ -86,11 +86,11 @@ broken_states =
     ∷ broken (with_clock good (clock_with 1 1 0 3)) (true ∷ true ∷ true ∷ true ∷ true ∷ true ∷ true ∷ true ∷ false ∷ true ∷ true ∷ true ∷ true ∷ [])
     ∷ broken (with_clock good (clock_with 1 1 0 0)) (true ∷ true ∷ true ∷ true ∷ true ∷ true ∷ true ∷ true ∷ false ∷ true ∷ true ∷ true ∷ true ∷ [])
     -- W10: VM 0 runs and is stopped
-    ∷ broken (with_vm good 0 (with_standing stopped_standing (vm_at good 0))) (true ∷ true ∷ true ∷ true ∷ true ∷ true ∷ true ∷ true ∷ true ∷ false ∷ true ∷ true ∷ true ∷ [])
+    ∷ broken (with_vm good 0 (ended_as stopped_standing (vm_at good 0))) (true ∷ true ∷ true ∷ true ∷ true ∷ true ∷ true ∷ true ∷ true ∷ false ∷ true ∷ true ∷ true ∷ [])
     -- W11: VM 1 runs in a slot of VM 0
     ∷ broken (with_running good 1) (true ∷ true ∷ true ∷ true ∷ true ∷ true ∷ true ∷ true ∷ true ∷ true ∷ false ∷ true ∷ true ∷ [])
-    -- W12: a standing of 6, and a flag of 2
-    ∷ broken (with_queue (with_vm good 1 (with_standing 6 (vm_at good 1))) no_entries) (true ∷ true ∷ true ∷ true ∷ true ∷ true ∷ true ∷ true ∷ true ∷ true ∷ true ∷ false ∷ true ∷ [])
+    -- W12: a standing of 5, and a flag of 2
+    ∷ broken (with_queue (with_vm good 1 (ended_as 5 (vm_at good 1))) no_entries) (true ∷ true ∷ true ∷ true ∷ true ∷ true ∷ true ∷ true ∷ true ∷ true ∷ true ∷ false ∷ true ∷ [])
     ∷ broken (with_running (with_clock good (clock_with 1 2 0 2)) 255) (true ∷ true ∷ true ∷ true ∷ true ∷ true ∷ true ∷ true ∷ true ∷ true ∷ true ∷ false ∷ true ∷ [])
     -- W13: the entry of VM 1 is not counted; it is counted for VM 0; and VM 7 has a count as well
     ∷ broken (with_queue good (holding (1 ∷ []) (zeros 8))) (true ∷ true ∷ true ∷ true ∷ true ∷ true ∷ true ∷ true ∷ true ∷ true ∷ true ∷ true ∷ false ∷ [])

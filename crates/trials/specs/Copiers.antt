@@ -2,7 +2,7 @@
 use Rattle.std.specs.Prelude.{suc, zero, ℕ, ◌-◌, get_or, set, take, List, [], ◌∷◌}
 use Rattle.rig_core.specs.Memory.{copied_by}
 use Rattle.rig_core.specs.State.{vm_at, with_queue, with_vm}
-use Rattle.event.specs.declared.Event.TheVariants.{Call, Copy, Extra, Fault, Pause, Restart, Resume, Shutdown, Start, Stop, Tick, Write}
+use Rattle.event.specs.declared.Event.TheVariants.{Call, Copy, Extra, Fault, Restart, Shutdown, Start, Stop, Tick, Write}
 use Rattle.guest.specs.Record.{saved_at}
 use Rattle.history.specs.History.{Behaviour}
 use Rattle.promises.specs.Copying.{Copier}
@@ -28,8 +28,6 @@ on_copy f c (Call s n at) m = m
 on_copy f c (Write o x) m = m
 on_copy f c (Fault k d) m = m
 on_copy f c (Copy p w) m = f w p m
-on_copy f c (Pause v) m = m
-on_copy f c (Resume v) m = m
 
 -- D35: copied before all of it is checked, so where it fails too
 abbrev pub copies_unchecked : Copier

@@ -7,13 +7,13 @@ use Rattle.promises.specs.Delivering.{Delivers}
 use Rattle.promises.specs.Framing.{Framed, Starts, Stores}
 use Rattle.promises.specs.Refusing.{Refuses, StaysSound}
 use Rattle.promises.specs.Sharing.{Accounts, Slices, Waiting}
-use Rattle.promises.specs.Timing.{Clocks, Shows, Table}
+use Rattle.promises.specs.Timing.{Shows, Table}
 use Rattle.promises.specs.Tracing.{Runs, Traced}
 use Rattle.trials.specs.Copiers.{copies_forwards, copies_half, copies_never, copies_unchecked, fails_uncleared, loses_next}
-use Rattle.trials.specs.Spoilt.{adds_count, adds_place, adds_record, calls_yield, extra_resets, faults_as_stop, faults_wipe, forgets_served, ignores_write, joins_uncounted, loses_restore, lowers_other, moves, pause_stops_age, pause_wipes, pause_yields, restarts_run, restarts_uncounted, resume_loses, slot_handed_on, stops_as_error, stops_hand_on, stops_not, stops_uncounted, stops_unused, stops_wipe, strays_at_first, unstarts, uses_up, writes_all}
-use Rattle.trials.specs.Worthless.{charges_spare, empties_pending, forgets_address, idle_always, inject_waits, injects_its_own, invents, leaves_entries, lowest_first, moves_at_stop, newest_first, raises_copy, refuses_all, repeats_first, restarts_silent, sends_back, shuts_at_once, tells_all, tells_none, tells_served, untouched, waits_for_paused}
+use Rattle.trials.specs.Spoilt.{adds_count, adds_place, adds_record, calls_yield, extra_resets, faults_as_stop, faults_wipe, forgets_served, ignores_write, joins_uncounted, loses_restore, lowers_other, moves, restarts_run, restarts_uncounted, stops_as_error, stops_hand_on, stops_not, stops_uncounted, stops_unused, stops_wipe, strays_at_first, unstarts, uses_up, writes_all}
+use Rattle.trials.specs.Worthless.{charges_spare, empties_pending, forgets_address, idle_always, inject_waits, injects_its_own, invents, leaves_entries, lowest_first, moves_at_stop, newest_first, raises_copy, refuses_all, repeats_first, restarts_silent, shuts_at_once, tells_all, tells_none, tells_served, untouched}
 
--- C3, M1 to M9
+-- C3, M1 to M7
 pub record Refuted : Type 0 where
   -- at Start
   pub refuses-all : (n : ℕ) → (n ≡ 0 → ⊥) → Refuses (refuses_all n) → ⊥
@@ -25,7 +25,7 @@ pub record Refuted : Type 0 where
   -- at the fifth tick, and at the sixth
   pub charges : Table charges_spare → ⊥
   pub charges-slices : Slices charges_spare → ⊥
-  -- the request of VM 0 stands behind an entry that should have left
+  -- the request of VM 0 waits behind an entry that should have left
   pub leaves : Waiting leaves_entries → ⊥
   pub leaves-queue : Traced leaves_entries → ⊥
   -- the request of VM 1 is not served by the first spare tick
@@ -92,11 +92,3 @@ pub record Refuted : Type 0 where
   pub unchecked : Copies copies_unchecked step_of → ⊥
   pub two-old-wheels : Copies copies_half step_of → ⊥
   pub overlapping : Copies copies_forwards step_of → ⊥
-  -- pausing: the entries are lost; the slot is handed on; the request behind a paused VM's waits; that of the VM itself, resumed, loses its place; the tick is taken away; no age; no fields
-  pub loses-entries : Traced resume_loses → ⊥
-  pub hands-slot-on : Slices slot_handed_on → ⊥
-  pub waits-for-paused : Waiting waits_for_paused → ⊥
-  pub sends-back : Waiting sends_back → ⊥
-  pub pause-yields : Runs pause_yields → ⊥
-  pub pause-ages : Clocks pause_stops_age → ⊥
-  pub pause-wipes : Framed pause_wipes → ⊥

@@ -5,17 +5,17 @@ use Rattle.basis.specs.Nobody.{nobody}
 use Rattle.config.specs.Sizes.{is_spare}
 use Rattle.rig_core.specs.Events.{step_of}
 use Rattle.rig_core.specs.Sound.{none_ready}
-use Rattle.rig_core.specs.State.{address_of, idle, owner_now, ready_at, vm_at, with_clock, with_queue, with_running, with_vm, with_vms}
+use Rattle.rig_core.specs.State.{address_of, owner_now, ready_at, vm_at, with_clock, with_queue, with_running, with_vm, with_vms}
 use Rattle.rig_core.specs.declared.Core.{Core}
 use Rattle.rig_core.specs.declared.Stepped.{Stepped}
 use Rattle.event.specs.Kinds.{kind_of, subject}
-use Rattle.event.specs.declared.Event.TheVariants.{Call, Copy, Extra, Fault, Pause, Restart, Resume, Shutdown, Start, Stop, Tick, Write}
+use Rattle.event.specs.declared.Event.TheVariants.{Call, Copy, Extra, Fault, Restart, Shutdown, Start, Stop, Tick, Write}
 use Rattle.event.specs.declared.Event.{Event}
-use Rattle.guest.specs.Record.{blank, fresh, is_ready, saved_at, with_standing, with_status}
+use Rattle.guest.specs.Record.{blank, ended_as, fresh, is_ready, saved_at, with_status}
 use Rattle.guest.specs.Write.{write}
 use Rattle.guest.specs.declared.Vm.{Vm}
 use Rattle.history.specs.History.{Behaviour}
-use Rattle.queue.specs.Entries.{entries, entries_of, first_of, lowered, removal, taken}
+use Rattle.queue.specs.Entries.{entries, entries_of, lowered}
 use Rattle.table.specs.Position.{has_ticked}
 use Rattle.trials.specs.Worthless.{is_done}
 use Rattle.vms.specs.Records.{each}
@@ -46,15 +46,15 @@ wiped v = with_status (saved_at 0 v) blank
 abbrev pub stops_unused : Behaviour
 stops_unused =
     spoilt 17
-    (λ c e d. with_vms d (each (λ k v. pick (both (is_ready v) (both (not (eqb d.running k)) (eqb (entries_of k (entries d.queue)) 0))) (with_standing 2 v) v) d.config.count d.vms))
+    (λ c e d. with_vms d (each (λ k v. pick (both (is_ready v) (both (not (eqb d.running k)) (eqb (entries_of k (entries d.queue)) 0))) (ended_as 2 v) v) d.config.count d.vms))
 
 -- D14: Stop writes "in error"
 abbrev pub stops_as_error : Behaviour
-stops_as_error = spoilt 18 (λ c e d. touching d (subject e) (with_standing 4))
+stops_as_error = spoilt 18 (λ c e d. touching d (subject e) (ended_as 4))
 
 -- D23: Fault writes "stopped"
 abbrev pub faults_as_stop : Behaviour
-faults_as_stop = spoilt 24 (λ c e d. touching d c.running (with_standing 2))
+faults_as_stop = spoilt 24 (λ c e d. touching d c.running (ended_as 2))
 
 -- D14: with queue size 0, Stop leaves the VM ready and running
 abbrev pub stops_not : Behaviour
@@ -97,8 +97,6 @@ wrote_by (Call s n at) v = v
 wrote_by (Write o x) v = write o x v
 wrote_by (Fault k d) v = v
 wrote_by (Copy p w) v = v
-wrote_by (Pause w) v = v
-wrote_by (Resume w) v = v
 
 -- D21: it lands in every VM's block
 abbrev pub writes_all : Behaviour
@@ -154,31 +152,6 @@ restarts_uncounted = spoilt 20 (λ c e d. counting d c.queue.counts)
 -- T10: Extra counts nothing
 abbrev pub joins_uncounted : Behaviour
 joins_uncounted = spoilt 21 (λ c e d. counting d c.queue.counts)
-
--- ---- pausing (M9)
-
--- D41: Resume loses the entries of its VM
-abbrev pub resume_loses : Behaviour
-resume_loses = spoilt 28 (λ c e d. with_queue d (removal (subject e) d.queue).queue)
-
--- D40: the slot of a paused VM goes to the oldest entry whose VM is ready
-abbrev pub slot_handed_on : Behaviour
-slot_handed_on =
-    spoilt 17 (λ c e d. pick (both (idle d) (eqb (vm_at d (owner_now d)).standing 5)) (with_running (with_queue d (taken (ready_at d) d.queue)) (first_of (ready_at d) (entries d.queue))) d)
-
--- D39: Pause takes the tick away at once
-abbrev pub pause_yields : Behaviour
-pause_yields = spoilt 27 (λ c e d. pick (eqb d.running (subject e)) (with_running d nobody) d)
-
--- D40: a paused VM stays as old as it was
-abbrev pub pause_stops_age : Behaviour
-pause_stops_age =
-    spoilt 17
-    (λ c e d. with_vms d (each (λ k v. pick (eqb v.standing 5) (record { standing = v.standing; address = v.address; status = v.status; age = (vm_at c k).age; ran = v.ran }) v) d.config.count d.vms))
-
--- D38: Pause wipes the fields and the address
-abbrev pub pause_wipes : Behaviour
-pause_wipes = spoilt 27 (λ c e d. touching d (subject e) wiped)
 
 -- ---- numbers and places that the test of soundness does not look at
 

@@ -1,4 +1,4 @@
--- The vectors of the rules as one table: X1 with the thirteen lines of X2, and P1 to P26.
+-- The vectors of the rules as one table: X1 with the thirteen lines of X2, and P1 to P22.
 use Rattle.std.specs.Prelude.{ℕ, ◌%◌, ◌+◌, ◌-◌, ltb, drop, get_or, replicate, take, List, map, [], ◌++◌, ◌∷◌}
 use Rattle.basis.specs.Choice.{pick}
 use Rattle.change.specs.declared.Answer.{Answer}
@@ -7,7 +7,7 @@ use Rattle.rig_core.specs.Events.{step_of}
 use Rattle.rig_core.specs.State.{vm_at, with_vm}
 use Rattle.rig_core.specs.declared.Core.{Core}
 use Rattle.rig_core.specs.declared.Stepped.{Stepped}
-use Rattle.event.specs.declared.Event.TheVariants.{Call, Extra, Fault, Pause, Restart, Resume, Shutdown, Start, Stop, Tick, Write}
+use Rattle.event.specs.declared.Event.TheVariants.{Call, Extra, Fault, Restart, Start, Stop, Tick, Write}
 use Rattle.event.specs.declared.Event.{Event}
 use Rattle.guest.specs.Record.{blank, ready_standing}
 use Rattle.guest.specs.declared.Status.{Status}
@@ -108,33 +108,6 @@ removed_shown n e = get_or (map removed_by (history step_of (example 4) (Start �
 unfoldable pub counts_shown : List Event → List ℕ
 counts_shown es = (state_of step_of (example 4) (Start ∷ Tick 0 ∷ Extra 0 ∷ Extra 1 ∷ Call 4 0 0x1010 ∷ es)).queue.counts
 
--- P12
-abbrev pub asked12 : List Event
-asked12 = Start ∷ Tick 0 ∷ Extra 0 ∷ Extra 1 ∷ Call 4 0 0x1010 ∷ []
-
--- the queue's entries, then of VM 0 the standing, the address, psIntPending and the age
-abbrev pub stands_shown : Core → List (List ℕ)
-stands_shown c = entries c.queue ∷ ((vm_at c 0).standing ∷ (vm_at c 0).address ∷ (vm_at c 0).status.pending ∷ (vm_at c 0).age ∷ []) ∷ []
-
--- the lines of these events when they follow those of P12, and what stands then
-unfoldable pub pause_shown : List Event → List (List ℕ)
-pause_shown es = drop 5 (lines_in (example 4) (asked12 ++ es)) ++ stands_shown (state_of step_of (example 4) (asked12 ++ es))
-
--- a line that tells nothing but its refusal, who runs and where
-abbrev pub plainly : ℕ → ℕ → ℕ → List ℕ
-plainly refusal running address = refusal ∷ running ∷ address ∷ 255 ∷ 0 ∷ 0 ∷ 0 ∷ []
-
-abbrev pub idly : List ℕ
-idly = plainly 0 255 0
-
--- P24
-abbrev pub frozen : List Event
-frozen = Pause 0 ∷ Tick 0x1010 ∷ Tick 0 ∷ Tick 0x2008 ∷ []
-
--- P26
-abbrev pub both_paused : List Event
-both_paused = Pause 0 ∷ Pause 1 ∷ Tick 0x1010 ∷ Tick 0 ∷ Tick 0 ∷ []
-
 -- P17: the kth extent moves one byte
 abbrev pub bytewise : ℕ → Extent
 bytewise k = piece k (0x100 + k) 1
@@ -146,7 +119,7 @@ seven_bytes = bytewise 0 ∷ bytewise 1 ∷ bytewise 2 ∷ bytewise 3 ∷ bytewi
 abbrev pub wild : Extent
 wild = extent_of 0xffffffff 0 0xffffffff
 
--- X1, X2, P1 to P26, C7
+-- X1, X2, P1 to P22, C7
 unfoldable pub vectors : List Vector
 vectors =
     record { rule = InX1; found = judged example_image ∷ parts_of (read_image example_image).config; says = (0 ∷ 0 ∷ []) ∷ parts_of (example 1) }
@@ -216,26 +189,4 @@ vectors =
     ∷ record { rule = InP 21; found = copy_shown 1 (piece 0 0x180 4 ∷ []); says = failed 3 0x40000180 }
     ∷ record { rule = InP 21; found = copy_shown 1 (piece 0x180 0 4 ∷ []); says = copied (bytes_with 0 4 (λ i. (i + 0x180) % 251)) }
     ∷ record { rule = InP 22; found = copy_shown 8 (seven_bytes ++ (piece 0 0x40 257 ∷ [])); says = failed 7 257 }
-    ∷ record {
-      rule = InP 23;
-      found = pause_shown (Pause 0 ∷ Call 4 0 0x1018 ∷ Extra 0 ∷ Pause 0 ∷ Resume 1 ∷ Pause 2 ∷ Resume 2 ∷ []);
-      says =
-          plainly 0 0 0x1010 ∷ plainly 0 0 0x1018 ∷ plainly 4 0 0x1018 ∷ plainly 4 0 0x1018 ∷ plainly 11 0 0x1018 ∷ plainly 3 0 0x1018 ∷ plainly 3 0 0x1018
-          ∷ (0 ∷ 1 ∷ 0 ∷ 0 ∷ []) ∷ (5 ∷ 0x1018 ∷ 0 ∷ 1 ∷ []) ∷ [];
-    }
-    ∷ record {
-      rule = InP 24;
-      found = pause_shown frozen;
-      says = plainly 0 0 0x1010 ∷ idly ∷ plainly 0 1 0x2000 ∷ plainly 0 1 0x2008 ∷ (0 ∷ 0 ∷ []) ∷ (5 ∷ 0x1010 ∷ 0 ∷ 4 ∷ []) ∷ [];
-    }
-    ∷ vector (InP 24) (counts_shown frozen) (2 ∷ zeros 7)
-    ∷ record {
-      rule = InP 25;
-      found = drop 4 (pause_shown (frozen ++ (Resume 0 ∷ Tick 0x2010 ∷ Tick 0x1020 ∷ Tick 0x1030 ∷ Tick 0x2018 ∷ [])));
-      says = plainly 0 1 0x2008 ∷ plainly 0 0 0x1010 ∷ plainly 0 0 0x1020 ∷ plainly 0 1 0x2010 ∷ plainly 0 0 0x1030 ∷ (0 ∷ []) ∷ (1 ∷ 0x1030 ∷ 0 ∷ 8 ∷ []) ∷ [];
-    }
-    ∷ record { rule = InP 26; found = pause_shown both_paused; says = plainly 0 0 0x1010 ∷ plainly 0 0 0x1010 ∷ idly ∷ idly ∷ idly ∷ (0 ∷ 1 ∷ 0 ∷ []) ∷ (5 ∷ 0x1010 ∷ 0 ∷ 4 ∷ []) ∷ [] }
-    ∷ record { rule = InP 26; found = drop 5 (pause_shown (both_paused ++ (Stop 0 ∷ []))); says = (0 ∷ 255 ∷ 0 ∷ 255 ∷ 1 ∷ 0 ∷ 2 ∷ []) ∷ (1 ∷ []) ∷ (2 ∷ 0x1010 ∷ 0 ∷ 4 ∷ []) ∷ [] }
-    ∷ record { rule = InP 26; found = drop 5 (pause_shown (both_paused ++ (Shutdown 0 ∷ []))); says = idly ∷ (0 ∷ 1 ∷ 0 ∷ []) ∷ (5 ∷ 0x1010 ∷ 0x800 ∷ 4 ∷ []) ∷ [] }
-    ∷ record { rule = InP 26; found = drop 5 (pause_shown (both_paused ++ (Restart 0 ∷ []))); says = (0 ∷ 255 ∷ 0 ∷ 255 ∷ 0 ∷ 0 ∷ 2 ∷ []) ∷ (1 ∷ []) ∷ (1 ∷ 0x1000 ∷ 0 ∷ 0 ∷ []) ∷ [] }
     ∷ []

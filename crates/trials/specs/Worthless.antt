@@ -1,5 +1,5 @@
--- Behaviours that are not to pass: worthless cores, and ours with one easy mistake in it (M1 to M7, M9).
-use Rattle.std.specs.Prelude.{suc, zero, ℕ, ◌%◌, ◌+◌, ◌-◌, ◌^◌, eqb, ltb, get_or, Bool, not, List, [], ◌++◌, ◌∷◌}
+-- Behaviours that are not to pass: worthless cores, and ours with one easy mistake in it (M1 to M7).
+use Rattle.std.specs.Prelude.{suc, zero, ℕ, ◌%◌, ◌+◌, ◌-◌, ◌^◌, eqb, ltb, get_or, Bool, not, List, ◌∷◌}
 use Rattle.basis.specs.Bits.{bit}
 use Rattle.basis.specs.Choice.{both, pick}
 use Rattle.basis.specs.Nobody.{nobody}
@@ -9,11 +9,11 @@ use Rattle.config.specs.Sizes.{handler_at, is_spare}
 use Rattle.rig_core.specs.Changes.{answering, changed_by}
 use Rattle.rig_core.specs.Events.{inner_of, step_of, tick_clock, tick_owner, tick_queue}
 use Rattle.rig_core.specs.Refusals.{refused, row_of}
-use Rattle.rig_core.specs.State.{idle, owner_now, ready_at, vm_at, with_clock, with_queue, with_running, with_vm, with_vms}
+use Rattle.rig_core.specs.State.{idle, owner_now, vm_at, with_clock, with_queue, with_running, with_vm, with_vms}
 use Rattle.rig_core.specs.declared.Core.{Core}
 use Rattle.rig_core.specs.declared.Stepped.{Stepped}
 use Rattle.event.specs.Kinds.{any_restart, byte_of, is_extra, is_shutdown, is_stop, is_tick}
-use Rattle.event.specs.declared.Event.TheVariants.{Call, Copy, Extra, Fault, Pause, Restart, Resume, Shutdown, Start, Stop, Tick, Write}
+use Rattle.event.specs.declared.Event.TheVariants.{Call, Copy, Extra, Fault, Restart, Shutdown, Start, Stop, Tick, Write}
 use Rattle.event.specs.declared.Event.{Event}
 use Rattle.guest.specs.Deliver.{back_from, deliver, deliver_by, quiet, shown}
 use Rattle.guest.specs.Record.{fresh, pend, saved_at, with_pending, with_status}
@@ -23,7 +23,7 @@ use Rattle.guest.specs.declared.Found.{Found}
 use Rattle.guest.specs.declared.Vm.{Vm}
 use Rattle.history.specs.History.{Behaviour}
 use Rattle.promises.specs.Delivering.{call_delivers}
-use Rattle.queue.specs.Entries.{entries, first_of, holding, no_entries, raised}
+use Rattle.queue.specs.Entries.{entries, front_of, holding, raised}
 use Rattle.vms.specs.Tick.{passed, runner_of, turn_to}
 use Rattle.vms.specs.declared.Turn.{Turn}
 
@@ -128,7 +128,7 @@ turn_with d who left handlers l = turn_to who (entering_by d who left handlers l
 
 abbrev pub tick_by : (ℕ → Vm → Delivery) → Core → ℕ → Turn
 tick_by d c at =
-    turn_with d (runner_of (tick_owner c) (first_of (ready_at c) (entries c.queue)) (passed c.running at c.config.count c.vms)) (tick_clock c).left c.config.handlers
+    turn_with d (runner_of (tick_owner c) (front_of (entries c.queue)) (passed c.running at c.config.count c.vms)) (tick_clock c).left c.config.handlers
     (passed c.running at c.config.count c.vms)
 
 abbrev pub call_by : (ℕ → Vm → Delivery) → (ℕ → ℕ → Vm → Delivery) → ℕ → ℕ → ℕ → Vm → Delivery
@@ -151,8 +151,6 @@ delivering_by d i c (Call s n at) =
 delivering_by d i c (Write o x) = inner_of c (Write o x)
 delivering_by d i c (Fault k x) = inner_of c (Fault k x)
 delivering_by d i c (Copy p w) = inner_of c (Copy p w)
-delivering_by d i c (Pause v) = inner_of c (Pause v)
-delivering_by d i c (Resume v) = inner_of c (Resume v)
 
 -- nothing is pending any more
 abbrev pub emptied : Vm → Found → Vm
@@ -220,25 +218,3 @@ restarts_silent c e = pick (any_restart e) (with_removed (step_of c e) 0) (step_
 -- A8: tells the entry that a spare tick serves as removed
 abbrev pub tells_served : Behaviour
 tells_served = tick_then (λ c s. with_removed s (c.queue.len - s.core.queue.len))
-
--- ---- pausing (M9)
-
--- the VM of the oldest entry is paused; where there is no entry, this is no VM
-abbrev pub front_paused : Core → Bool
-front_paused c = eqb (vm_at c (get_or (entries c.queue) 0 nobody)).standing 5
-
--- a spare tick waits for a paused VM that stands first: it idles, and the queue stays
-abbrev pub waits_for_paused : Behaviour
-waits_for_paused c e =
-    pick (both (is_tick e) (front_paused c))
-    (with_core (step_of (with_queue c no_entries) e) (with_queue (step_of (with_queue c no_entries) e).core c.queue))
-    (step_of c e)
-
--- the oldest entry behind all others
-abbrev pub moved : List ℕ → List ℕ
-moved [] = []
-moved (x ∷ l) = l ++ (x ∷ [])
-
--- a spare tick moves the entry of a paused VM that stands first to the end
-abbrev pub sends_back : Behaviour
-sends_back c e = pick (both (is_tick e) (both (is_spare (tick_owner c)) (front_paused c))) (step_of (with_queue c (holding (moved (entries c.queue)) c.queue.counts)) e) (step_of c e)

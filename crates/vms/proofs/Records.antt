@@ -12,7 +12,7 @@ use native.Mathlib.Omega.{arith}
 use Rattle.basis.proofs.Laws.{pick_case}
 use Rattle.basis.specs.Choice.{pick}
 use Rattle.guest.proofs.Facts.{enter_standing}
-use Rattle.guest.specs.Record.{fresh, is_alive, is_ready, older, saved_at}
+use Rattle.guest.specs.Record.{fresh, is_ready, older, saved_at}
 use Rattle.guest.specs.declared.Delivery.{Delivery}
 use Rattle.guest.specs.declared.Vm.{Vm}
 use Rattle.vms.proofs.Laws.{each_at, each-length}
@@ -40,9 +40,9 @@ store_keeps f l v vm e k =
     go (yes d) = rw (eq-eqb k v d) (e ∙ ap (λ j. f (get_or l j fresh)) (sym d))
     go (no d) = rw (ne_eqb k v d)
 
--- who is ready or paused stays so when a record that is takes the place of another
-pub alive_stays : (l : List Vm) (v : ℕ) (vm : Vm) → v < length l → is_alive vm ≡ true → (k : ℕ) → is_alive (get_or l k fresh) ≡ true → is_alive (get_or (set l v vm) k fresh) ≡ true
-alive_stays l v vm h r k e = rw (store_at l v vm k h) (pick_case (λ (w : Vm). is_alive w ≡ true) (eqb k v) _ _ (λ t. r) (λ t. e))
+-- who is ready stays so when a record that is ready takes the place of another
+pub ready_stays : (l : List Vm) (v : ℕ) (vm : Vm) → v < length l → is_ready vm ≡ true → (k : ℕ) → is_ready (get_or l k fresh) ≡ true → is_ready (get_or (set l v vm) k fresh) ≡ true
+ready_stays l v vm h r k e = rw (store_at l v vm k h) (pick_case (λ (w : Vm). is_ready w ≡ true) (eqb k v) _ _ (λ t. r) (λ t. e))
 
 -- a record that is not ready, stored at its place, is not ready there
 pub stored_unready : (l : List Vm) (w : ℕ) (x : Vm) → is_ready x ≡ false → is_ready (get_or (set l w x) w fresh) ≡ false

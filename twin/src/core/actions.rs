@@ -1,4 +1,4 @@
-//! What the master and the running VM can do: stop, shutdown, restart, pause, resume, write, fault, call.
+//! What the master and the running VM can do: stop, shutdown, restart, write, fault, call.
 
 use crate::core::event::{Notice, Outcome};
 use crate::core::flaw::Flaw;
@@ -16,7 +16,7 @@ pub const CODE_TOO_MANY_EXTENTS: u8 = 6;
 pub const CODE_EXTENT_TOO_LONG: u8 = 7;
 
 impl Core {
-    /// Ends a VM, ready or paused: its queue entries go with it, and the core from it if it was running.
+    /// Takes a VM out of ready, its queue entries with it, and the core from it if it was running.
     pub(crate) fn end_vm(&mut self, vm: u8, standing: Standing, notice: Notice) -> Outcome {
         self.vm_mut(vm).standing = standing;
         let removed = match self.flaw {
@@ -63,12 +63,6 @@ impl Core {
         }
         let told = if self.flaw == Flaw::RestartTellsNone { 0 } else { removed };
         Outcome { removed: told, ..Outcome::default() }
-    }
-
-    /// Pause and Resume: the standing changes, and that is all (D38, D41).
-    pub(crate) fn stand(&mut self, vm: u8, standing: Standing) -> Outcome {
-        self.vm_mut(vm).standing = standing;
-        Outcome::default()
     }
 
     pub(crate) fn write(&mut self, offset: u8, value: u32) -> Outcome {

@@ -47,7 +47,6 @@ impl Core {
         let found = self.found();
         let outcome = self.perform(event, place);
         self.miscount(event, &found);
-        let outcome = self.mispause(event, &found, outcome);
         self.answer(0, outcome)
     }
 
@@ -68,8 +67,6 @@ impl Core {
             Event::Write { offset, value } => self.write(offset, value),
             Event::Fault { code, data } => self.fault(code, data),
             Event::Copy(request) => self.copy(&request, place),
-            Event::Pause { vm } => self.stand(vm, Standing::Paused),
-            Event::Resume { vm } => self.stand(vm, Standing::Ready),
         }
     }
 
@@ -91,7 +88,7 @@ impl Core {
     /// Can the queue take one more entry?
     pub fn queue_full(&self) -> bool {
         let more = u8::from(self.flaw == Flaw::QueueTakesOneMore && self.config.queue_size < 16);
-        self.places_taken() >= self.config.queue_size + more
+        self.state.queue.count >= self.config.queue_size + more
     }
 
     fn flaw_at_refusal(&mut self, event: Event, refusal: u8) {

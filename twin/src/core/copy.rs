@@ -107,9 +107,6 @@ impl Core {
         if self.refusal_of(event) != 0 {
             return Vec::new();
         }
-        if self.flaw == Flaw::PausedCopiesNothing && self.is_paused(vm) {
-            return Vec::new();
-        }
         match self.copy_failure(vm, &request, place) {
             None if self.flaw == Flaw::CopiesPastCount => request.extents.to_vec(),
             None => request.in_use().to_vec(),

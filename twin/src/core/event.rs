@@ -45,8 +45,6 @@ pub enum Event {
     Write { offset: u8, value: u32 },
     Fault { code: u8, data: u32 },
     Copy(CopyRequest),
-    Pause { vm: u8 },
-    Resume { vm: u8 },
 }
 
 impl Event {

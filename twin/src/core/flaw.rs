@@ -279,106 +279,6 @@ pub enum Flaw {
     CopyRecordByCount,
     /// E13: the destination stands before the source.
     CopyDestinationReadFirst,
-    /// D41, M9: a Resume removes the entries of its VM.
-    ResumeLosesEntries,
-    /// D41, M9: a Resume puts the entries of its VM behind the others.
-    ResumeAsksAnew,
-    /// D38: a Pause removes the entries of its VM.
-    PauseLosesEntries,
-    /// D6, D40, M9: the slot of a paused VM is as a spare one.
-    PausedSlotGoesToQueue,
-    /// D7, D40, M9: a spare tick idles while the oldest entry is that of a paused VM.
-    SpareWaitsForPaused,
-    /// D7, D40, M9: the entries that a spare tick passes over go to the end.
-    PausedEntryGoesToEnd,
-    /// D7, D40: a spare tick serves the oldest entry, its VM paused or not.
-    PausedIsServed,
-    /// D7: where the served entry is not the oldest, the oldest leaves in its place.
-    MiddleTakesFront,
-    /// D7: behind a paused VM the newest ready one in place of the oldest.
-    NewestBehindPaused,
-    /// D7: where all entries are those of paused VMs, a spare tick drops the oldest.
-    IdleDropsOldest,
-    /// T10, D7: a spare tick lowers the count of the VM whose entry is the oldest.
-    ServedLowersOldest,
-    /// R1, D40: the entries of paused VMs do not count for a full queue.
-    PausedEntriesTakeNoPlace,
-    /// D39, M9: no VM runs once the one that runs is paused.
-    PauseTakesTick,
-    /// D40: a VM that is paused while it runs has the next ticks of its slot.
-    PausedRunsOn,
-    /// D6, D40: a paused VM runs in its own slot.
-    PausedRunsInSlot,
-    /// D4, D40, M9: a paused VM does not age.
-    PausedDoesNotAge,
-    /// D3, D39: a tick does not store the address of a VM that was paused while it ran.
-    PausedAddressNotStored,
-    /// D38: a Pause makes notice 1.
-    PauseMakesNotice,
-    /// A8, D38: a Pause tells the entries of its VM as removed.
-    PauseTellsEntries,
-    /// D41: a Resume makes notice 1.
-    ResumeMakesNotice,
-    /// D41: a VM that is resumed runs at once.
-    ResumeSetsRunning,
-    /// D41: a VM that is resumed goes on at its entry.
-    ResumeGoesToEntry,
-    /// D41: the fields of a VM that is resumed are zero.
-    ResumeClearsFields,
-    /// D41: the age of a VM that is resumed is zero.
-    ResumeClearsAge,
-    /// D13, D41: a Resume of the VM that runs delivers.
-    ResumeDelivers,
-    /// R1: an Extra for a paused VM is not refused.
-    ExtraTakesPaused,
-    /// R1: a Stop of a paused VM is refused with 4.
-    StopRefusesPaused,
-    /// R1: a Shutdown of a paused VM is refused with 4.
-    ShutdownRefusesPaused,
-    /// D17: a Shutdown makes a paused VM ready.
-    ShutdownResumes,
-    /// D18: a Restart leaves a paused VM paused.
-    RestartLeavesPaused,
-    /// R1: a Pause of a paused VM is not refused.
-    PauseTakesPaused,
-    /// R1: a Pause of a VM that is stopped, shut down or in error is not refused.
-    PauseTakesStopped,
-    /// R1: a Pause of a VM that there is not is refused with 4.
-    PauseFourBefore3,
-    /// R1: a Resume is refused with 4 in place of 11.
-    ResumeGives4,
-    /// R1: a Resume of a VM that there is not is refused with 11.
-    ResumeElevenBefore3,
-    /// R1: a Resume of a VM that is stopped, shut down or in error is not refused.
-    ResumeTakesStopped,
-    /// R1: a Resume of a VM that is ready is not refused.
-    ResumeTakesReady,
-    /// R1, D39: service 4 is refused with 4 while its VM is paused.
-    PausedCallRefused,
-    /// A6, D39: service 4 has result 1 while its VM is paused.
-    PausedCallAnswersOne,
-    /// R1, D39: a Write is refused with 5 while its VM is paused.
-    PausedWriteRefused,
-    /// R1, D39: a Fault is refused with 5 while its VM is paused.
-    PausedFaultRefused,
-    /// R1, D39: a Copy is refused with 5 while its VM is paused.
-    PausedCopyRefused,
-    /// D13, D39: nothing is delivered to a VM that is paused.
-    PausedDeliversNone,
-    /// D39: a VM that ends while it is paused stays so.
-    EndedStaysPaused,
-    /// W4: a state with entries of a paused VM is not sound.
-    PausedEntriesUnsound,
-    /// W10: a state in which a paused VM runs is not sound.
-    PausedRunningUnsound,
-    /// E15, L4: kind 0x1B is not read.
-    PauseKindUnknown,
-    /// E15, E16: the two kinds are taken for each other.
-    PauseKindsSwapped,
-    /// L4: kind 0x1D is read as a Resume.
-    KindBehindResumeRead,
-    /// N9: the text has the standing of a paused VM as 1.
-    TextPausedIsReady,
     /// N14: a log runs on the core that the one before it left.
     CarriesState,
     /// N14, N15: the ticks of the logs before it count for a log's place in the table.
@@ -415,8 +315,6 @@ pub enum Flaw {
     StoppedHasNotRun,
     /// N15: each slot is one tick of the table, whatever its duration.
     TableBySlots,
-    /// N17: a paused VM does not miss the ticks of its slots.
-    PausedIsNotMissed,
     /// N18: the last VM has no line.
     NoRowForLastVm,
     /// H8: memory that may be read may be executed.
@@ -501,8 +399,6 @@ pub enum Flaw {
     CopiesOneByteLess,
     /// D36: the source does not stay.
     CopiesAndClears,
-    /// D36, D39: a Copy by a VM that is paused moves no byte.
-    PausedCopiesNothing,
     /// N26: the window is zero at first.
     MemoryFileIgnored,
     /// N26: a memory.bin over 16,384 bytes is as one without a byte.

@@ -4,20 +4,18 @@
 use crate::core::event::Event;
 use crate::core::flaw::Flaw;
 use crate::core::limits::MAX_VMS;
-use crate::core::state::{Queue, Standing};
+use crate::core::state::Queue;
 use crate::core::Core;
 
-/// What an event found: the queue, the VM that ran, and how the VMs stood.
+/// What an event found: the queue, and the VM that ran.
 pub(crate) struct Found {
-    pub(crate) queue: Queue,
-    pub(crate) running: Option<u8>,
-    pub(crate) standings: [Standing; MAX_VMS],
+    queue: Queue,
+    running: Option<u8>,
 }
 
 impl Core {
     pub(crate) fn found(&self) -> Found {
-        let standings = self.state.vms.map(|vm| vm.standing);
-        Found { queue: self.state.queue, running: self.state.running, standings }
+        Found { queue: self.state.queue, running: self.state.running }
     }
 
     /// Puts the counts of a wrong twin in the place of the right ones, after an event that was done.
@@ -93,13 +91,11 @@ impl Core {
             return;
         }
         let newest = found.queue.entries().last().copied();
-        let oldest = found.queue.entries().first().copied();
         match self.flaw {
             Flaw::ServedKeepsCount => self.recount(found, None, one_less),
             Flaw::ServedLowersFormer => self.recount(found, found.running, one_less),
             Flaw::ServedClearsCount => self.recount(found, self.state.running, none),
             Flaw::ServedLowersNewest => self.recount(found, newest, one_less),
-            Flaw::ServedLowersOldest => self.recount(found, oldest, one_less),
             Flaw::ServedLowersAll => self.state.queue.vm_counts = found.queue.vm_counts.map(one_less),
             _ => {}
         }

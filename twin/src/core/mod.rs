@@ -10,7 +10,6 @@ pub mod flaw;
 pub mod limits;
 pub mod memory;
 mod miscount;
-mod mispause;
 pub mod refusal;
 pub mod region;
 pub mod state;

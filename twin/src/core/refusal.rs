@@ -12,25 +12,25 @@ impl Core {
         if !self.sound() {
             return 1;
         }
-        let right = match (event, self.state.started) {
+        match (event, self.state.started) {
             (Event::Start, true) => 7,
             (Event::Start, false) => 0,
             (Event::Copy(_), false) if self.flaw == Flaw::CopyBeforeStartTaken => 0,
             (_, false) => 2,
             (_, true) => self.refusal_when_started(event),
-        };
-        self.misrefusal(event, right)
+        }
     }
 
     fn refusal_when_started(&self, event: Event) -> u8 {
         match event {
             Event::Start | Event::Tick { .. } => 0,
-            Event::Stop { vm }
-            | Event::Shutdown { vm }
-            | Event::Restart { vm }
-            | Event::Extra { vm }
-            | Event::Pause { vm }
-            | Event::Resume { vm } => self.refusal_of_master(event, vm),
+            Event::Stop { vm } | Event::Shutdown { vm } => self.refusal_unless_ready(vm),
+            Event::Restart { vm } if vm >= self.config.vm_count => 3,
+            Event::Restart { .. } => 0,
+            Event::Extra { vm } => match self.refusal_unless_ready(vm) {
+                0 if self.queue_full() => 6,
+                refusal => refusal,
+            },
             Event::Copy(_) if self.flaw == Flaw::CopyByNobodyTaken => 0,
             _ if self.state.running.is_none() => 5,
             Event::Write { offset, .. } if !is_field_offset(offset) => 8,
@@ -39,17 +39,13 @@ impl Core {
         }
     }
 
-    /// The rows of R1 about the VM that an event of the master names, from top to bottom.
-    fn refusal_of_master(&self, event: Event, vm: u8) -> u8 {
+    fn refusal_unless_ready(&self, vm: u8) -> u8 {
         if vm >= self.config.vm_count {
-            return 3;
-        }
-        match event {
-            Event::Extra { .. } | Event::Pause { .. } if !self.is_ready(vm) => 4,
-            Event::Stop { .. } | Event::Shutdown { .. } if !self.is_ready_or_paused(vm) => 4,
-            Event::Resume { .. } if !self.is_paused(vm) => 11,
-            Event::Extra { .. } if self.queue_full() => 6,
-            _ => 0,
+            3
+        } else if self.vm(vm).standing != Standing::Ready {
+            4
+        } else {
+            0
         }
     }
 
@@ -73,7 +69,7 @@ impl Core {
     fn queue_sound(&self) -> bool {
         let queue = &self.state.queue;
         queue.count <= self.config.queue_size
-            && queue.entries().iter().all(|vm| self.may_be_queued(*vm))
+            && queue.entries().iter().all(|vm| self.is_ready(*vm))
             && queue.places[usize::from(queue.count)..].iter().all(|place| *place == 0)
     }
 
@@ -104,40 +100,12 @@ impl Core {
         };
         let slot = self.config.slots.get(usize::from(self.state.slot));
         let owner_fits = slot.is_some_and(|slot| slot.owner == vm || slot.owner == SPARE);
-        self.may_run_on(vm) && owner_fits
+        self.is_ready(vm) && owner_fits
     }
 
-    /// W4, and what a wrong twin asks for.
-    fn may_be_queued(&self, vm: u8) -> bool {
-        match self.flaw {
-            Flaw::PausedEntriesUnsound => self.is_ready(vm),
-            _ => self.is_ready_or_paused(vm),
-        }
-    }
-
-    /// W10, and what a wrong twin asks for.
-    fn may_run_on(&self, vm: u8) -> bool {
-        match self.flaw {
-            Flaw::PausedRunningUnsound => self.is_ready(vm),
-            _ => self.is_ready_or_paused(vm),
-        }
-    }
-
-    pub fn is_ready(&self, vm: u8) -> bool {
-        self.stands(vm, Standing::Ready)
-    }
-
-    pub fn is_paused(&self, vm: u8) -> bool {
-        self.stands(vm, Standing::Paused)
-    }
-
-    pub(crate) fn is_ready_or_paused(&self, vm: u8) -> bool {
-        self.is_ready(vm) || self.is_paused(vm)
-    }
-
-    fn stands(&self, vm: u8, standing: Standing) -> bool {
+    pub(crate) fn is_ready(&self, vm: u8) -> bool {
         let record = self.state.vms.get(usize::from(vm));
-        record.is_some_and(|vm| vm.standing == standing)
+        record.is_some_and(|vm| vm.standing == Standing::Ready)
     }
 }
 

@@ -23,7 +23,6 @@ pub enum Standing {
     Stopped = 2,
     ShutDown = 3,
     InError = 4,
-    Paused = 5,
 }
 
 #[derive(Clone, Copy, Debug, Default, PartialEq, Eq)]

@@ -17,7 +17,7 @@ impl Core {
     }
 
     pub(crate) fn tick(&mut self, address: u32) -> Outcome {
-        if let Some(vm) = self.state.running.filter(|vm| !self.forgets_address(*vm)) {
+        if let Some(vm) = self.state.running {
             self.vm_mut(vm).address = address;
         }
         self.age_all();
@@ -36,13 +36,9 @@ impl Core {
     }
 
     pub(crate) fn age_all(&mut self) {
+        let only_ready = self.flaw == Flaw::OnlyReadyAge;
         for index in 0..self.config.vm_count {
-            let ages = match self.flaw {
-                Flaw::OnlyReadyAge => self.is_ready(index),
-                Flaw::PausedDoesNotAge => !self.is_paused(index),
-                _ => true,
-            };
-            if ages {
+            if !only_ready || self.is_ready(index) {
                 let vm = self.vm_mut(index);
                 vm.age = vm.age.wrapping_add(1);
             }
@@ -78,27 +74,18 @@ impl Core {
     /// Who gets this tick, by the slot that holds now.
     fn choose(&mut self) -> Option<u8> {
         let owner = self.config.slots[usize::from(self.state.slot)].owner;
-        if owner != SPARE && !self.gives_slot_away(owner) {
-            return Some(owner).filter(|vm| self.gets_its_slot(*vm));
+        if owner != SPARE {
+            return Some(owner).filter(|vm| self.is_ready(*vm));
         }
-        let vm = self.serve_entry();
+        let index = match self.flaw {
+            Flaw::NewestEntryFirst => usize::from(self.state.queue.count.saturating_sub(1)),
+            _ => 0,
+        };
+        let vm = self.state.queue.take(index);
         if let (Some(vm), Flaw::SpareChargedToSlice) = (vm, self.flaw) {
             self.owed[usize::from(vm)] += 1;
         }
         vm
-    }
-
-    /// Takes the oldest entry whose VM is ready out of the queue, if there is one (D7).
-    fn serve_entry(&mut self) -> Option<u8> {
-        let entries = self.state.queue.entries();
-        let place = match self.flaw {
-            Flaw::NewestEntryFirst => entries.iter().rposition(|vm| self.is_ready(*vm)),
-            _ => entries.iter().position(|vm| self.is_ready(*vm)),
-        };
-        match self.flaw.serves_paused_wrongly() {
-            true => self.misserve(place),
-            false => self.state.queue.take(place?),
-        }
     }
 
     /// The three fields that the core sets from its own numbers.
@@ -124,9 +111,6 @@ impl Core {
 
     /// Delivers the highest number that is pending and enabled, if there is one (D11).
     pub(crate) fn deliver(&mut self, vm: u8) -> Option<u8> {
-        if self.flaw == Flaw::PausedDeliversNone && self.is_paused(vm) {
-            return None;
-        }
         let both = self.vm(vm).deliverable();
         let number = match self.flaw {
             Flaw::LowestNumberFirst => (0..32).find(|bit| both >> bit & 1 == 1)?,

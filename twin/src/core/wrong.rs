@@ -5,7 +5,7 @@ use crate::core::flaw::Flaw;
 
 impl Flaw {
     /// Every wrong twin of a run.
-    pub const WRONG_RUNS: [(Flaw, &'static str); 187] = [
+    pub const WRONG_RUNS: [(Flaw, &'static str); 137] = [
         (Flaw::GuestClock, "raises the guest's own copy of ticksWhileRunning"),
         (Flaw::SpareChargedToSlice, "charges a spare tick to the VM's next slice"),
         (Flaw::StopMovesTable, "moves the table on when the running VM is stopped"),
@@ -143,60 +143,10 @@ impl Flaw {
         (Flaw::KindNineteenIsCopy, "reads kind 0x19 as a copy"),
         (Flaw::CopyRecordByCount, "reads only as many extents as the count says"),
         (Flaw::CopyDestinationReadFirst, "reads the destination of an extent before its source"),
-        (Flaw::ResumeLosesEntries, "loses the entries of a VM that is resumed"),
-        (Flaw::ResumeAsksAnew, "puts the entries of a VM that is resumed behind the others"),
-        (Flaw::PauseLosesEntries, "loses the entries of a VM that is paused"),
-        (Flaw::PausedSlotGoesToQueue, "gives the slot of a paused VM to the queue"),
-        (Flaw::SpareWaitsForPaused, "lets a spare tick wait for a paused VM that stands first"),
-        (Flaw::PausedEntryGoesToEnd, "moves the entry of a paused VM that stands first to the end"),
-        (Flaw::PausedIsServed, "serves the entry of a paused VM"),
-        (Flaw::MiddleTakesFront, "takes the first entry out in place of one behind it that is served"),
-        (Flaw::NewestBehindPaused, "serves the newest ready entry behind a paused VM"),
-        (Flaw::IdleDropsOldest, "drops the oldest entry where all are those of paused VMs"),
-        (Flaw::ServedLowersOldest, "lowers the count of the VM that stands first at a spare tick"),
-        (Flaw::PausedEntriesTakeNoPlace, "leaves the entries of paused VMs out of a full queue"),
-        (Flaw::PauseTakesTick, "takes the tick from a VM that is paused while it runs"),
-        (Flaw::PausedRunsOn, "lets a VM that is paused while it runs have the rest of its slot"),
-        (Flaw::PausedRunsInSlot, "lets a paused VM run in its own slot"),
-        (Flaw::PausedDoesNotAge, "does not age a paused VM"),
-        (Flaw::PausedAddressNotStored, "does not store the address of a VM that was paused while it ran"),
-        (Flaw::PauseMakesNotice, "makes a notice at a Pause"),
-        (Flaw::PauseTellsEntries, "answers the entries of a paused VM as removed"),
-        (Flaw::ResumeMakesNotice, "makes a notice at a Resume"),
-        (Flaw::ResumeSetsRunning, "runs a VM at its Resume"),
-        (Flaw::ResumeGoesToEntry, "lets a VM that is resumed go on at its entry"),
-        (Flaw::ResumeClearsFields, "clears the fields of a VM that is resumed"),
-        (Flaw::ResumeClearsAge, "clears the age of a VM that is resumed"),
-        (Flaw::ResumeDelivers, "delivers at a Resume"),
-        (Flaw::ExtraTakesPaused, "takes an Extra for a paused VM"),
-        (Flaw::StopRefusesPaused, "refuses to stop a paused VM"),
-        (Flaw::ShutdownRefusesPaused, "refuses a Shutdown of a paused VM"),
-        (Flaw::ShutdownResumes, "resumes a paused VM at its Shutdown"),
-        (Flaw::RestartLeavesPaused, "leaves a paused VM paused at its Restart"),
-        (Flaw::PauseTakesPaused, "takes a Pause of a paused VM"),
-        (Flaw::PauseTakesStopped, "takes a Pause of a VM that has ended"),
-        (Flaw::PauseFourBefore3, "answers 4 to a Pause of a VM that there is not"),
-        (Flaw::ResumeGives4, "answers 4 in place of 11"),
-        (Flaw::ResumeElevenBefore3, "answers 11 to a Resume of a VM that there is not"),
-        (Flaw::ResumeTakesStopped, "takes a Resume of a VM that has ended"),
-        (Flaw::ResumeTakesReady, "takes a Resume of a VM that is ready"),
-        (Flaw::PausedCallRefused, "refuses service 4 of a VM that is paused while it runs"),
-        (Flaw::PausedCallAnswersOne, "answers result 1 to service 4 of a VM that is paused while it runs"),
-        (Flaw::PausedWriteRefused, "refuses a Write of a VM that is paused while it runs"),
-        (Flaw::PausedFaultRefused, "refuses a Fault of a VM that is paused while it runs"),
-        (Flaw::PausedCopyRefused, "refuses a copy of a VM that is paused while it runs"),
-        (Flaw::PausedDeliversNone, "delivers nothing to a VM that is paused while it runs"),
-        (Flaw::EndedStaysPaused, "leaves a VM paused that ends while it is"),
-        (Flaw::PausedEntriesUnsound, "takes entries of a paused VM for not sound"),
-        (Flaw::PausedRunningUnsound, "takes a paused VM that runs for not sound"),
-        (Flaw::PauseKindUnknown, "does not know the kind of a Pause"),
-        (Flaw::PauseKindsSwapped, "reads a Pause as a Resume and a Resume as a Pause"),
-        (Flaw::KindBehindResumeRead, "reads kind 0x1d as a Resume"),
-        (Flaw::TextPausedIsReady, "prints a paused VM as ready"),
     ];
 
     /// Every wrong twin of a report.
-    pub const WRONG_REPORTS: [(Flaw, &'static str); 20] = [
+    pub const WRONG_REPORTS: [(Flaw, &'static str); 19] = [
         (Flaw::CarriesState, "carries the state of the core from log to log"),
         (Flaw::CarriesPlace, "carries the place in the table from log to log"),
         (Flaw::SkipsMissingLog, "skips a missing log in place of ending the list"),
@@ -215,7 +165,6 @@ impl Flaw {
         (Flaw::SpareIdleIsMissed, "counts an idle spare tick as missed by the VM of the tick before"),
         (Flaw::StoppedHasNotRun, "takes the tick from a VM that ends within it"),
         (Flaw::TableBySlots, "goes through the table slot by slot, whatever their durations"),
-        (Flaw::PausedIsNotMissed, "leaves the ticks of a paused VM out of the missed ones"),
         (Flaw::NoRowForLastVm, "prints no row for the last VM"),
     ];
 
@@ -256,7 +205,7 @@ impl Flaw {
     ];
 
     /// Every wrong twin of the window: its states and answers are right, its bytes or their text are not.
-    pub const WRONG_MEMORIES: [(Flaw, &'static str); 23] = [
+    pub const WRONG_MEMORIES: [(Flaw, &'static str); 22] = [
         (Flaw::CopiesBeforeAllChecked, "copies each extent before the next is checked"),
         (Flaw::CopiesForwards, "copies byte by byte from the front"),
         (Flaw::CopiesBackwards, "copies byte by byte from the end"),
@@ -266,7 +215,6 @@ impl Flaw {
         (Flaw::CopiesPastCount, "copies the extents past the count"),
         (Flaw::CopiesOneByteLess, "leaves out the last byte of an extent"),
         (Flaw::CopiesAndClears, "clears the source"),
-        (Flaw::PausedCopiesNothing, "copies no byte for a VM that is paused while it runs"),
         (Flaw::MemoryFileIgnored, "does not read memory.bin"),
         (Flaw::LongMemoryIgnored, "takes no byte of a memory.bin that is too long"),
         (Flaw::WindowKeepsZeroRows, "prints rows of zeros"),

@@ -7,7 +7,6 @@ use crate::core::Core;
 use crate::coverage::copies::CopyCoverage;
 use crate::coverage::counts::CountCoverage;
 use crate::coverage::marks::{event_marks, image_marks, log_marks, Mark};
-use crate::coverage::pauses::PauseCoverage;
 use crate::coverage::regions::RegionCoverage;
 use crate::generate::image::FAULTS;
 use crate::image::read::read_image;
@@ -15,16 +14,11 @@ use crate::log::read::{event_body_length, read_record, Record};
 use crate::run::frames::Case;
 
 /// The event kinds by name, in the order of their record kinds.
-pub const KIND_NAMES: [&str; 12] = [
-    "start", "tick", "stop", "shutdown", "restart", "extra", "call", "write", "fault", "copy", "pause",
-    "resume",
-];
-
-/// One more than the highest refusal.
-const REFUSAL_COUNT: usize = 12;
+pub const KIND_NAMES: [&str; 10] =
+    ["start", "tick", "stop", "shutdown", "restart", "extra", "call", "write", "fault", "copy"];
 
 /// R1: every refusal that each event kind can get on a run from fresh.
-const REFUSALS_BY_KIND: [&[u8]; KIND_NAMES.len()] = [
+const REFUSALS_BY_KIND: [&[u8]; 10] = [
     &[0, 7],
     &[0, 2],
     &[0, 2, 3, 4],
@@ -35,8 +29,6 @@ const REFUSALS_BY_KIND: [&[u8]; KIND_NAMES.len()] = [
     &[0, 2, 5, 8],
     &[0, 2, 5, 9],
     &[0, 2, 5],
-    &[0, 2, 3, 4],
-    &[0, 2, 3, 11],
 ];
 
 /// D13: where a number can be delivered, at a tick or at the services 0, 1 and 2.
@@ -53,7 +45,7 @@ const REMOVED_NAMES: [&str; 4] = ["no entry", "1 entry", "2 entries or more", "e
 pub struct Coverage {
     pub events: u64,
     /// R1
-    refusals: [[u64; REFUSAL_COUNT]; KIND_NAMES.len()],
+    refusals: [[u64; 10]; KIND_NAMES.len()],
     /// I8
     image_faults: [u64; FAULTS.len()],
     /// H1 to H7, I15
@@ -79,8 +71,6 @@ pub struct Coverage {
     counts: CountCoverage,
     /// D31 to D37, S10
     copies: CopyCoverage,
-    /// D38 to D41
-    pauses: PauseCoverage,
     /// D21, F1 to F10
     fields_written: [u64; 10],
     marks: [u64; Mark::COUNT],
@@ -90,7 +80,7 @@ impl Default for Coverage {
     fn default() -> Coverage {
         Coverage {
             events: 0,
-            refusals: [[0; REFUSAL_COUNT]; KIND_NAMES.len()],
+            refusals: [[0; 10]; KIND_NAMES.len()],
             image_faults: [0; FAULTS.len()],
             regions: RegionCoverage::default(),
             images_accepted: 0,
@@ -104,7 +94,6 @@ impl Default for Coverage {
             removed: [[0; REMOVED_NAMES.len()]; REMOVAL_NAMES.len()],
             counts: CountCoverage::default(),
             copies: CopyCoverage::default(),
-            pauses: PauseCoverage::default(),
             fields_written: [0; 10],
             marks: [0; Mark::COUNT],
         }
@@ -144,7 +133,6 @@ impl Coverage {
             self.observe_removal(event, &answer, core.state.queue.count);
             self.counts.observe(&before, event, &answer, &core);
             self.copies.observe(&before, event, &answer);
-            self.pauses.observe(&before, event, &answer, &core);
             event_marks(&before, event, &answer, &core, &mut |mark| self.marks[mark as usize] += 1);
             at = next;
         }
@@ -154,7 +142,6 @@ impl Coverage {
             let mark = if known { Mark::CutInBody } else { Mark::CutAtKind };
             self.marks[mark as usize] += 1;
             self.copies.observe_cut(&log[at..]);
-            self.pauses.observe_cut(&log[at..]);
         }
     }
 
@@ -212,7 +199,6 @@ impl Coverage {
         }
         points.extend(self.counts.points());
         points.extend(self.copies.points());
-        points.extend(self.pauses.points());
         points.extend(self.regions.points());
         points
     }
@@ -284,7 +270,5 @@ fn kind_index(event: Event) -> usize {
         Event::Write { .. } => 7,
         Event::Fault { .. } => 8,
         Event::Copy(_) => 9,
-        Event::Pause { .. } => 10,
-        Event::Resume { .. } => 11,
     }
 }

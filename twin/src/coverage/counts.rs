@@ -76,11 +76,11 @@ marks! {
     /// T10, A8, D14
     EndsWithNone = "counts: Stop of a VM without entries, another has some",
     /// T10, D18
-    RestartResting = "counts: Restart of a VM that has ended, another has entries",
+    RestartResting = "counts: Restart of a VM that is not ready, another has entries",
 }
 
 /// T10, R2: the refusals that a run from fresh can give while entries stand in the queue.
-const REFUSALS: [u8; 8] = [3, 4, 5, 6, 7, 8, 9, 11];
+const REFUSALS: [u8; 7] = [3, 4, 5, 6, 7, 8, 9];
 
 /// What the queue counts of all runs reached.
 #[derive(Clone, Debug, Default)]
@@ -179,8 +179,7 @@ impl CountCoverage {
         let (stopped, restarted) =
             (matches!(event, Event::Stop { .. }), matches!(event, Event::Restart { .. }));
         self.test(CountMark::EndsWithNone, stopped && was == 0 && others_stay);
-        let resting = !before.is_ready_or_paused(vm);
-        self.test(CountMark::RestartResting, restarted && resting && others_stay);
+        self.test(CountMark::RestartResting, restarted && !before.is_ready(vm) && others_stay);
     }
 
     /// Every point that has to be reached, by name, and how often it was.

@@ -143,8 +143,6 @@ marks! {
     RestartShutDown = "run: Restart of a VM that shut down",
     /// R5, D18
     RestartInError = "run: Restart of a VM in error",
-    /// R5, D18
-    RestartPaused = "run: Restart of a paused VM",
     /// R5, D6
     NobodyReady = "run: tick with no VM ready",
     /// D17, M5
@@ -307,7 +305,7 @@ fn tick_marks(before: &Core, answer: &Answer, after: &Core, hit: &mut impl FnMut
     );
     test(hit, Mark::LongSlotThrough, slot.ticks == MAX_SLOT_TICKS && after.state.left == 1);
     test(hit, Mark::IdleNamed, idle && !spare);
-    test(hit, Mark::IdleSpare, idle && spare && before.state.queue.count == 0);
+    test(hit, Mark::IdleSpare, idle && spare);
     test(hit, Mark::SpareServed, !idle && spare);
     test(hit, Mark::SpareServesOneOfSome, spare && has_entries(after, answer.running));
     test(hit, Mark::SpareDelivers, spare && answer.delivered.is_some());
@@ -352,7 +350,6 @@ fn restart_marks(before: &Core, vm: u8, hit: &mut impl FnMut(Mark)) {
         Standing::Stopped => hit(Mark::RestartStopped),
         Standing::ShutDown => hit(Mark::RestartShutDown),
         Standing::InError => hit(Mark::RestartInError),
-        Standing::Paused => hit(Mark::RestartPaused),
         Standing::None => {}
     }
 }
@@ -375,12 +372,7 @@ fn refusal_marks(before: &Core, event: Event, refusal: u8, hit: &mut impl FnMut(
             test(hit, Mark::CodeQueued, refusal == 9 && has_entries(before, before.state.running));
             test(hit, Mark::CodeNoVm, refusal == 5 && !(3..=5).contains(&code));
         }
-        Event::Stop { vm }
-        | Event::Shutdown { vm }
-        | Event::Restart { vm }
-        | Event::Extra { vm }
-        | Event::Pause { vm }
-        | Event::Resume { vm } => {
+        Event::Stop { vm } | Event::Shutdown { vm } | Event::Restart { vm } | Event::Extra { vm } => {
             test(hit, Mark::VmEight, refusal == 3 && vm == 8);
             test(hit, Mark::VmLast, refusal == 3 && vm == 255);
             let extra = matches!(event, Event::Extra { .. });

@@ -59,8 +59,6 @@ marks! {
     RowMadeZero = "memory: a row becomes zero",
     /// D36
     Moved = "memory: a copy that changes bytes",
-    /// D36, D39
-    MovedWhilePaused = "memory: a copy that changes bytes by a VM that is paused while it runs",
     /// D36, P14
     OverlapForwards = "memory: overlap forwards that changes bytes",
     /// D36, P14
@@ -139,7 +137,6 @@ impl MemoryCoverage {
         while let Record::Event(event, next) = read_record(log, at) {
             let before = window.clone();
             let running = core.state.running;
-            let paused = running.is_some_and(|vm| core.is_paused(vm));
             let answer = core.apply_on(event, &mut window);
             if let Event::Copy(request) = event {
                 let done = answer.refusal == 0 && answer.notice.number == 0;
@@ -148,7 +145,6 @@ impl MemoryCoverage {
                     (false, 0, Some(_)) => self.observe_failed(&request, &before),
                     _ => self.test(MemoryMark::RefusedCopy, changes(&before, request.in_use())),
                 }
-                self.test(MemoryMark::MovedWhilePaused, paused && before != window);
                 moved += u64::from(before != window);
             } else {
                 self.test(MemoryMark::OtherEvents, moved > 0);

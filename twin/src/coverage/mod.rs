@@ -6,7 +6,6 @@ pub mod copies;
 pub mod counts;
 pub mod marks;
 pub mod memories;
-pub mod pauses;
 pub mod query_view;
 pub mod regions;
 pub mod reports;

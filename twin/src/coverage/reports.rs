@@ -52,8 +52,6 @@ marks! {
     SpareTick = "report: spare tick",
     /// N17
     MissedTick = "report: missed tick",
-    /// N17, D40
-    PausedMisses = "report: tick missed by a paused VM",
     /// N17
     IdleSpare = "report: idle tick in a spare slot",
     /// N16
@@ -149,7 +147,6 @@ impl ReportCoverage {
             self.test(ReportMark::TableTick, !spare && tick.running.is_some());
             self.test(ReportMark::SpareTick, spare && tick.running.is_some());
             self.test(ReportMark::MissedTick, !spare && tick.running.is_none());
-            self.test(ReportMark::PausedMisses, !spare && tick.of_paused && tick.running.is_none());
             self.test(ReportMark::IdleSpare, spare && tick.running.is_none());
             self.test(ReportMark::EndedInTick, tick.running.is_some() && tick.at_end.is_none());
             self.ticks += 1;

@@ -6,7 +6,6 @@ use crate::core::flaw::Flaw;
 use crate::core::limits::{MAX_LOG_BYTES, MAX_QUEUE, MAX_SLOTS, MAX_VMS};
 use crate::edges::copies::copy_cases;
 use crate::edges::counts::{counts_cleared, counts_of_one_vm, counts_up_and_down};
-use crate::edges::pauses::pause_cases;
 use crate::edges::regions::{longest_config, region_cases};
 use crate::edges::removals::{removals, removals_of_none};
 use crate::generate::image::{config_of, faulty_image, legal_config, FAULTS};
@@ -28,7 +27,6 @@ pub fn edge_cases(random: &mut Random) -> Vec<Case> {
         scripted(&small(2, 1), &every_refusal()),
     ];
     cases.extend(region_cases());
-    cases.extend(pause_cases());
     cases.extend([
         scripted(&lone(1), &every_service()),
         scripted(&small(2, 3), &arguments()),
@@ -75,7 +73,7 @@ pub fn small(vm_count: u8, queue_size: u8) -> Config {
 }
 
 /// Two VMs with three ticks each, and a spare tick between them.
-pub fn wide() -> Config {
+fn wide() -> Config {
     let mut config = small(2, 4);
     config.slot_count = 4;
     let spare = Slot { owner: SPARE, ticks: 1 };
@@ -344,7 +342,7 @@ pub fn cut_tails() -> Vec<Vec<u8>> {
             tails.push(tail);
         }
     }
-    for kind in [0x00, 0x0f, 0x19, 0x1d, 0x1e, 0x80, 0xff] {
+    for kind in [0x00, 0x0f, 0x19, 0x1b, 0x1c, 0x80, 0xff] {
         tails.push(vec![kind, 0x10, 0x10, 0x10, 0x10, 0x10]);
         tails.push(vec![kind]);
     }

@@ -160,21 +160,7 @@ fn failures() -> Vec<EdgeMemory> {
     edges.push(run("refused, restarted and copied", &again));
     let before_start = log_of(&[good, Event::Start, good, TICK, Event::Stop { vm: 0 }, good]);
     edges.push(edge("all refused", MemoryFolder::of(&image(), &before_start, &counting(600))));
-    edges.extend(paused_copies(good));
     edges
-}
-
-/// Copies by a VM that is paused and still runs (D39), and by one that is paused and does not.
-fn paused_copies(good: Event) -> Vec<EdgeMemory> {
-    let (pause, resume) = (Event::Pause { vm: 0 }, Event::Resume { vm: 0 });
-    let other = copy(&[inside(3, 0x210, 32)]);
-    let bad = copy(&[inside(0, 0x200, 16), inside(0, 0x180, 4)]);
-    vec![
-        run("copied while paused", &[pause, good]),
-        run("copied before, while and after it is paused", &[good, pause, other, resume, good, other]),
-        run("failed while paused", &[pause, bad, good]),
-        run("paused without a tick", &[pause, TICK, good, resume, good, TICK, TICK, other]),
-    ]
 }
 
 /// Logs that are cut, too long, or as long as can be (N28).

@@ -5,7 +5,6 @@ pub mod cases;
 pub mod copies;
 pub mod counts;
 pub mod memories;
-pub mod pauses;
 pub mod regions;
 pub mod removals;
 pub mod reports;

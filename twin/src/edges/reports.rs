@@ -56,17 +56,6 @@ fn eventful() -> Vec<u8> {
     log_of(&events)
 }
 
-/// VM 0 is paused in its slot and misses the rest of it and the next; its request waits for it, and the spare
-/// tick goes to that of VM 1.
-fn pausing() -> Vec<u8> {
-    let (zero, one) = (Event::Extra { vm: 0 }, Event::Extra { vm: 1 });
-    let mut events = vec![Event::Start, TICK, zero, one, Event::Pause { vm: 0 }];
-    events.extend([TICK; 9]);
-    events.push(Event::Resume { vm: 0 });
-    events.extend([TICK; 6]);
-    log_of(&events)
-}
-
 /// Start and so many ticks.
 fn ticking(ticks: usize) -> Vec<u8> {
     let mut events = vec![TICK; ticks + 1];
@@ -95,7 +84,6 @@ fn missing_files() -> Vec<EdgeReport> {
         edge("no image", ReportFolder { image: None, logs }),
         edge("no logs", folder(Vec::new())),
         edge("one log", folder(vec![bytes(eventful())])),
-        edge("a paused VM", folder(vec![bytes(pausing())])),
     ]
 }
 

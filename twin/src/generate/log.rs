@@ -10,34 +10,45 @@ use crate::generate::random::Random;
 use crate::generate::values::{address, any_event, argument, mask, write_offset};
 use crate::log::write::write_record;
 
-/// What a log is mostly about: how likely each kind of step is, in the order in which a step asks: tick, call,
-/// write, fault, master, extra, odd, burst, copy, pause.
-type Mood = [usize; 10];
+/// What a log is mostly about: how likely each kind of step is.
+#[derive(Clone, Copy, Debug)]
+pub struct Mood {
+    tick: usize,
+    call: usize,
+    write: usize,
+    fault: usize,
+    master: usize,
+    extra: usize,
+    odd: usize,
+    burst: usize,
+    copy: usize,
+}
 
-const MOODS: [Mood; 7] = [
-    [50, 20, 12, 1, 5, 5, 3, 4, 8, 4],
-    [25, 35, 30, 0, 3, 2, 1, 4, 6, 2],
-    [40, 10, 3, 2, 10, 30, 3, 2, 6, 8],
-    [35, 10, 5, 5, 35, 8, 5, 2, 5, 10],
-    [15, 10, 10, 3, 10, 5, 40, 7, 10, 5],
-    [30, 8, 8, 1, 5, 10, 4, 4, 45, 4],
-    [40, 10, 4, 1, 4, 22, 3, 4, 4, 25],
+const MOODS: [Mood; 6] = [
+    Mood { tick: 50, call: 20, write: 12, fault: 1, master: 5, extra: 5, odd: 3, burst: 4, copy: 8 },
+    Mood { tick: 25, call: 35, write: 30, fault: 0, master: 3, extra: 2, odd: 1, burst: 4, copy: 6 },
+    Mood { tick: 40, call: 10, write: 3, fault: 2, master: 10, extra: 30, odd: 3, burst: 2, copy: 6 },
+    Mood { tick: 35, call: 10, write: 5, fault: 5, master: 35, extra: 8, odd: 5, burst: 2, copy: 5 },
+    Mood { tick: 15, call: 10, write: 10, fault: 3, master: 10, extra: 5, odd: 40, burst: 7, copy: 10 },
+    Mood { tick: 30, call: 8, write: 8, fault: 1, master: 5, extra: 10, odd: 4, burst: 4, copy: 45 },
 ];
 
 /// Nearly only ticks, for long runs.
-const TICKING: Mood = [940, 20, 15, 1, 6, 15, 2, 1, 2, 6];
+const TICKING: Mood =
+    Mood { tick: 940, call: 20, write: 15, fault: 1, master: 6, extra: 15, odd: 2, burst: 1, copy: 2 };
 
 /// Mostly copies, for runs whose memory is looked at.
-const COPYING: Mood = [18, 3, 2, 1, 2, 3, 3, 2, 66, 5];
+const COPYING: Mood =
+    Mood { tick: 18, call: 3, write: 2, fault: 1, master: 2, extra: 3, odd: 3, burst: 2, copy: 66 };
 
 /// So many percent of the copies by a VM that has no room for any are made nevertheless.
 const COPIES_WITHOUT_ROOM: usize = 12;
 
 /// A log under construction and the state after it.
 pub struct LogMaker<'a> {
-    pub(super) random: &'a mut Random,
+    random: &'a mut Random,
     mood: Mood,
-    pub(super) core: Core,
+    core: Core,
     log: Vec<u8>,
 }
 
@@ -82,7 +93,7 @@ impl<'a> LogMaker<'a> {
         self.log
     }
 
-    pub(super) fn push(&mut self, event: Event) {
+    fn push(&mut self, event: Event) {
         self.core.apply(event);
         write_record(event, &mut self.log);
     }
@@ -97,13 +108,20 @@ impl<'a> LogMaker<'a> {
             let vm = self.random.pick(&resting);
             return self.push(Event::Restart { vm });
         }
-        let held = self.held();
-        if !held.is_empty() && self.random.percent(3 + 3 * held.len()) {
-            let vm = self.random.pick(&held);
-            return self.push(Event::Resume { vm });
-        }
+        let mood = self.mood;
+        let weights = [
+            mood.tick,
+            mood.call,
+            mood.write,
+            mood.fault,
+            mood.master,
+            mood.extra,
+            mood.odd,
+            mood.burst,
+            mood.copy,
+        ];
         let running = self.core.state.running.is_some();
-        match self.random.weighted(&self.mood) {
+        match self.random.weighted(&weights) {
             1 if running => self.call(),
             2 if running => self.write(),
             3 if running => self.fault(),
@@ -115,14 +133,13 @@ impl<'a> LogMaker<'a> {
             }
             7 => self.burst(),
             8 if running => self.copy(),
-            9 => self.pause(),
             _ => self.tick(),
         }
     }
 
-    /// The VMs that are neither ready nor paused.
+    /// The VMs that are not ready.
     fn resting(&self) -> Vec<u8> {
-        (0..self.core.config.vm_count).filter(|vm| !self.core.is_ready_or_paused(*vm)).collect()
+        (0..self.core.config.vm_count).filter(|vm| !self.core.is_ready(*vm)).collect()
     }
 
     /// A field of the running VM.
@@ -130,13 +147,13 @@ impl<'a> LogMaker<'a> {
         self.core.state.running.map_or(0, |vm| self.core.vm(vm).fields[field])
     }
 
-    pub(super) fn tick(&mut self) {
+    fn tick(&mut self) {
         let address = address(self.random);
         self.push(Event::Tick { address });
     }
 
     /// A call; in a handler mostly the return from it.
-    pub(super) fn call(&mut self) {
+    fn call(&mut self) {
         let in_handler = self.own_field(ENABLED) == 0 && self.own_field(PREVIOUS_ENABLED) != 0;
         let weights = if in_handler { [15, 60, 10, 1, 12, 2] } else { [28, 14, 30, 3, 22, 3] };
         let service = match self.random.weighted(&weights) {
@@ -149,21 +166,21 @@ impl<'a> LogMaker<'a> {
     }
 
     /// A write; mostly it enables something where nothing is enabled.
-    pub(super) fn write(&mut self) {
+    fn write(&mut self) {
         let deaf = self.own_field(ENABLED) == 0 && self.random.percent(50);
         let offset = if deaf { 8 } else { write_offset(self.random) };
         let value = mask(self.random);
         self.push(Event::Write { offset, value });
     }
 
-    pub(super) fn fault(&mut self) {
+    fn fault(&mut self) {
         let code = self.random.pick(&[3, 4, 5]);
         let data = address(self.random);
         self.push(Event::Fault { code, data });
     }
 
     /// A copy by the VM that runs; without room for any mostly a tick in its place.
-    pub(super) fn copy(&mut self) {
+    fn copy(&mut self) {
         let room = self.core.state.running.map(|vm| Room::of(&self.core.config, vm));
         let request = match room {
             Some(room) if room.is_there() => copy_request(self.random, &room),
@@ -173,24 +190,23 @@ impl<'a> LogMaker<'a> {
         self.push(Event::Copy(request));
     }
 
-    pub(super) fn vm(&mut self) -> u8 {
+    fn vm(&mut self) -> u8 {
         self.random.below(usize::from(self.core.config.vm_count)) as u8
     }
 
-    /// Stop or Shutdown for a VM that is ready or paused, Restart for one that is not, and sometimes for one that
-    /// is.
+    /// Stop or Shutdown for a ready VM, Restart for one that is not, and sometimes for one that is.
     fn master(&mut self) {
         let vm = self.vm();
-        let taken = self.core.is_ready_or_paused(vm);
+        let ready = self.core.is_ready(vm);
         let event = match self.random.below(10) {
-            0..=4 if taken => Event::Shutdown { vm },
-            5..=6 if taken => Event::Stop { vm },
+            0..=4 if ready => Event::Shutdown { vm },
+            5..=6 if ready => Event::Stop { vm },
             _ => Event::Restart { vm },
         };
         self.push(event);
     }
 
-    pub(super) fn extra(&mut self) {
+    fn extra(&mut self) {
         let vm = self.vm();
         let ready = self.core.is_ready(vm);
         if ready && (!self.core.queue_full() || self.random.percent(10)) {
@@ -216,12 +232,10 @@ impl<'a> LogMaker<'a> {
         }
     }
 
-    /// Fills the queue and asks once more, for any VMs or for all of them in turn.
     fn fill_the_queue(&mut self) {
-        let (size, vm_count) = (self.core.config.queue_size, self.core.config.vm_count);
-        let in_turn = self.random.percent(40);
-        for round in 0..=size.saturating_sub(self.core.state.queue.count) {
-            let vm = if in_turn { round % vm_count } else { self.vm() };
+        let size = self.core.config.queue_size;
+        for _ in 0..=size.saturating_sub(self.core.state.queue.count) {
+            let vm = self.vm();
             self.push(Event::Extra { vm });
         }
         let next = address(self.random);

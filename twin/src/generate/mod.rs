@@ -6,7 +6,6 @@ pub mod copies;
 pub mod image;
 pub mod log;
 pub mod memories;
-pub mod pauses;
 pub mod random;
 pub mod regions;
 pub mod report;

@@ -89,13 +89,13 @@ fn cut_log(random: &mut Random, config: &Config) -> Vec<u8> {
         return log;
     }
     let at = some_record(random, &log);
-    log.insert(at, random.pick(&[0x00, 0x0f, 0x19, 0x1d, 0xff]));
+    log.insert(at, random.pick(&[0x00, 0x0f, 0x19, 0xff]));
     log
 }
 
 fn foreign_first_byte(random: &mut Random, config: &Config) -> Vec<u8> {
     let mut log = ordinary_log(random, config);
-    log.insert(0, random.pick(&[0x00, 0x01, 0x0f, 0x19, 0x1d, 0xff]));
+    log.insert(0, random.pick(&[0x00, 0x01, 0x0f, 0x19, 0xff]));
     log
 }
 

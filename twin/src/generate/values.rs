@@ -42,7 +42,7 @@ pub fn write_offset(random: &mut Random) -> u8 {
 /// Any event with any content, to be refused as often as not.
 pub fn any_event(random: &mut Random) -> Event {
     let vm = any_vm(random);
-    match random.below(12) {
+    match random.below(10) {
         0 => Event::Start,
         1 => Event::Tick { address: address(random) },
         2 => Event::Stop { vm },
@@ -61,8 +61,6 @@ pub fn any_event(random: &mut Random) -> Event {
             let code = if random.percent(80) { random.below(8) as u8 } else { random.byte() };
             Event::Fault { code, data: address(random) }
         }
-        9 => Event::Pause { vm },
-        10 => Event::Resume { vm },
         _ => Event::Copy(any_copy(random)),
     }
 }

@@ -171,11 +171,9 @@ fn event_of(word: &str, words: &mut Words) -> Result<Event, String> {
             Ok(Event::Fault { code, data: words.labelled("data", 32)? })
         }
         "copy" => Ok(Event::Copy(copy_request_of(words)?)),
-        "pause" => Ok(Event::Pause { vm: words.number("pause", 8)? as u8 }),
-        "resume" => Ok(Event::Resume { vm: words.number("resume", 8)? as u8 }),
         _ => {
-            let masters = "stop, shutdown, restart, extra, pause, resume";
-            Err(unknown(word, &format!("start, tick, {masters}, call, write, fault, copy or raw")))
+            let known = "start, tick, stop, shutdown, restart, extra, call, write, fault, copy or raw";
+            Err(unknown(word, known))
         }
     }
 }

@@ -112,8 +112,6 @@ pub fn event_line(event: Event) -> String {
         Event::Write { offset, value } => format!("write offset {offset} value {value:#x}"),
         Event::Fault { code, data } => format!("fault code {code} data {data:#x}"),
         Event::Copy(request) => copy_line(&request),
-        Event::Pause { vm } => format!("pause {vm}"),
-        Event::Resume { vm } => format!("resume {vm}"),
     }
 }
 

@@ -1,5 +1,5 @@
-//! What several tests share: the worked example, small configurations, the vectors of copies, pauses, and the
-//! command line.
+//! What several tests share: the worked example, small configurations, the vectors of copies, and the command
+//! line.
 #![allow(dead_code)]
 
 use std::fs;
@@ -61,18 +61,6 @@ pub fn tick(address: u32) -> Event {
     Event::Tick { address }
 }
 
-pub fn pause(vm: u8) -> Event {
-    Event::Pause { vm }
-}
-
-pub fn resume(vm: u8) -> Event {
-    Event::Resume { vm }
-}
-
-pub fn extra(vm: u8) -> Event {
-    Event::Extra { vm }
-}
-
 /// The seven kinds of events that remove entries, for a VM 0 that runs.
 pub const REMOVING: [Event; 7] = [
     Event::Stop { vm: 0 },
@@ -122,27 +110,13 @@ pub fn p12_core(flaw: Flaw) -> Core {
     core
 }
 
-/// An event of each of the twelve kinds, for VM 0 or the VM that runs.
-pub fn every_kind() -> [Event; 12] {
+/// An event of each of the ten kinds, for VM 0 or the VM that runs.
+pub fn every_kind() -> [Event; 10] {
     let vm = 0;
     let (stop, shutdown) = (Event::Stop { vm }, Event::Shutdown { vm });
     let (restart, extra) = (Event::Restart { vm }, Event::Extra { vm });
     let fault = Event::Fault { code: 3, data: 0 };
-    let (pause, resume, calls) = (Event::Pause { vm }, Event::Resume { vm }, call(0, 0, 0));
-    [
-        Event::Start,
-        tick(5),
-        stop,
-        shutdown,
-        restart,
-        extra,
-        calls,
-        write(8, 1),
-        fault,
-        copy(&[]),
-        pause,
-        resume,
-    ]
+    [Event::Start, tick(5), stop, shutdown, restart, extra, call(0, 0, 0), write(8, 1), fault, copy(&[])]
 }
 
 /// How many entries each VM has, counted place by place.

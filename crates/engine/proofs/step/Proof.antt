@@ -8,8 +8,8 @@ use mathlib.Core.Path.{refl}
 place-of-requires : tie.Need-place-of-requires
 place-of-requires c κs = search rules
 
-standing-at-requires : tie.Need-standing-at-requires
-standing-at-requires c κs = search rules
+ready-at-requires : tie.Need-ready-at-requires
+ready-at-requires c κs = search rules
 
 row-of-requires : tie.Need-row-of-requires
 row-of-requires c κs = search rules
@@ -24,7 +24,7 @@ same-length-2 : tie.Need-same-length-2
 same-length-2 c = search rules
 
 returns : tie.Need-returns
-returns c = moves_not _ _ _ _ _ _ _ _ _ c.before.before.before.before.before.before.before.before.place_of.ensures c.before.before.before.before.before.standing-at.ensures c.before.before.before.before.row_of_lem.ensures c.before.before.before.if1.true c.refusing.ensures
+returns c = moves_not _ _ _ _ _ _ _ _ _ c.before.before.before.before.before.before.before.before.place_of.ensures c.before.before.before.before.before.ready_at.ensures c.before.before.before.before.row_of_lem.ensures c.before.before.before.if1.true c.refusing.ensures
 
 enum-known-e : tie.Need-enum-known-e
 enum-known-e c = search rules
@@ -54,7 +54,7 @@ same-length-4 : tie.Need-same-length-4
 same-length-4 c = search rules
 
 returns-2 : tie.Need-returns-2
-returns-2 c = moves-by _ _ _ _ _ _ _ _ _ c.before.before.before.before.before.before.before.before.before.before.before.before.before.before.before.place_of.ensures c.before.before.before.before.before.before.before.before.before.before.before.before.standing-at.ensures c.before.before.before.before.before.before.before.before.before.before.before.row_of_lem.ensures _ _ _ c.before.before.before.before.before.before.before.before.before.before.if1.false c.before.before.before.before.before.before.before.before.e.given.1 (c.before.before.before.before.tick.ensures _ _)
+returns-2 c = moves-by _ _ _ _ _ _ _ _ _ c.before.before.before.before.before.before.before.before.before.before.before.before.before.before.before.place_of.ensures c.before.before.before.before.before.before.before.before.before.before.before.before.ready_at.ensures c.before.before.before.before.before.before.before.before.before.before.before.row_of_lem.ensures _ _ _ c.before.before.before.before.before.before.before.before.before.before.if1.false c.before.before.before.before.before.before.before.before.e.given.1 (c.before.before.before.before.tick.ensures _ _)
 
 same-length-5 : tie.Need-same-length-5
 same-length-5 c = search rules
@@ -63,7 +63,7 @@ same-length-6 : tie.Need-same-length-6
 same-length-6 c = search rules
 
 returns-3 : tie.Need-returns-3
-returns-3 c = moves-by _ _ _ _ _ _ _ _ _ c.before.before.before.before.before.before.before.before.before.before.before.before.before.before.place_of.ensures c.before.before.before.before.before.before.before.before.before.before.before.standing-at.ensures c.before.before.before.before.before.before.before.before.before.before.row_of_lem.ensures _ _ _ c.before.before.before.before.before.before.before.before.before.if1.false c.before.before.before.before.before.before.before.enum_told.given.1 (c.before.before.before.before.start.ensures _ _ _ _)
+returns-3 c = moves-by _ _ _ _ _ _ _ _ _ c.before.before.before.before.before.before.before.before.before.before.before.before.before.before.place_of.ensures c.before.before.before.before.before.before.before.before.before.before.before.ready_at.ensures c.before.before.before.before.before.before.before.before.before.before.row_of_lem.ensures _ _ _ c.before.before.before.before.before.before.before.before.before.if1.false c.before.before.before.before.before.before.before.enum_told.given.1 (c.before.before.before.before.start.ensures _ _ _ _)
 
 same-length-7 : tie.Need-same-length-7
 same-length-7 c = search rules
@@ -72,7 +72,7 @@ same-length-8 : tie.Need-same-length-8
 same-length-8 c = search rules
 
 returns-4 : tie.Need-returns-4
-returns-4 c = moves-by _ _ _ _ _ _ _ _ _ c.before.before.before.before.before.before.before.before.before.before.before.before.before.before.before.place_of.ensures c.before.before.before.before.before.before.before.before.before.before.before.before.standing-at.ensures c.before.before.before.before.before.before.before.before.before.before.before.row_of_lem.ensures _ _ _ c.before.before.before.before.before.before.before.before.before.before.if1.false c.before.before.before.before.before.before.before.before.e2.given.1 (c.before.before.before.before.copy.ensures _ _ _ _ _)
+returns-4 c = moves-by _ _ _ _ _ _ _ _ _ c.before.before.before.before.before.before.before.before.before.before.before.before.before.before.before.place_of.ensures c.before.before.before.before.before.before.before.before.before.before.before.before.ready_at.ensures c.before.before.before.before.before.before.before.before.before.before.before.row_of_lem.ensures _ _ _ c.before.before.before.before.before.before.before.before.before.before.if1.false c.before.before.before.before.before.before.before.before.e2.given.1 (c.before.before.before.before.copy.ensures _ _ _ _ _)
 
 same-length-9 : tie.Need-same-length-9
 same-length-9 c = search rules
@@ -81,14 +81,14 @@ same-length-10 : tie.Need-same-length-10
 same-length-10 c = search rules
 
 returns-5 : tie.Need-returns-5
-returns-5 c = moves-by _ _ _ _ _ _ _ _ _ c.before.before.before.before.before.before.before.before.before.before.before.before.before.place_of.ensures c.before.before.before.before.before.before.before.before.before.before.standing-at.ensures c.before.before.before.before.before.before.before.before.before.row_of_lem.ensures _ _ _ c.before.before.before.before.before.before.before.before.if1.false refl (c.before.before.before.before.change.ensures _ _ _)
+returns-5 c = moves-by _ _ _ _ _ _ _ _ _ c.before.before.before.before.before.before.before.before.before.before.before.before.before.place_of.ensures c.before.before.before.before.before.before.before.before.before.before.ready_at.ensures c.before.before.before.before.before.before.before.before.before.row_of_lem.ensures _ _ _ c.before.before.before.before.before.before.before.before.if1.false refl (c.before.before.before.before.change.ensures _ _ _)
 
 pub step_spec : {M : Type 1} → statement M
 step_spec =
     tie.close
     (tie.spec
     place-of-requires
-    standing-at-requires
+    ready-at-requires
     row-of-requires
     refusing-requires
     same_length

@@ -113,32 +113,6 @@ returns-10 : tie.Need-returns-10
 unfolding change_from
 returns-10 c = rw c.before.enum-told7.given.1 c.renewed4.ensures
 
-enum-told-8 : tie.Need-enum-told-8
-enum-told-8 c = search rules
-
-with-standing-requires : tie.Need-with-standing-requires
-with-standing-requires c κs = search rules
-
-renewed-requires-5 : tie.Need-renewed-requires-5
-renewed-requires-5 c κs = search rules
-
-enum-told-9 : tie.Need-enum-told-9
-enum-told-9 c = search rules
-
-with-standing-requires-2 : tie.Need-with-standing-requires-2
-with-standing-requires-2 c κs = search rules
-
-renewed-requires-6 : tie.Need-renewed-requires-6
-renewed-requires-6 c κs = search rules
-
-returns-11 : tie.Need-returns-11
-unfolding change_from
-returns-11 c = rw (c.before.before.enum-told8.given.1, ← c.before.with-standing.ensures) c.renewed5.ensures
-
-returns-12 : tie.Need-returns-12
-unfolding change_from
-returns-12 c = rw (c.before.before.enum-told9.given.1, ← c.before.with-standing2.ensures) c.renewed6.ensures
-
 pub change-of-spec : {M : Type 1} → statement M
 change-of-spec =
     tie.close
@@ -166,12 +140,6 @@ change-of-spec =
     failing-requires
     enum-told-7
     renewed-requires-4
-    enum-told-8
-    with-standing-requires
-    renewed-requires-5
-    enum-told-9
-    with-standing-requires-2
-    renewed-requires-6
     returns
     returns-2
     returns-3
@@ -181,6 +149,4 @@ change-of-spec =
     returns-7
     returns-8
     returns-9
-    returns-10
-    returns-11
-    returns-12)
+    returns-10)

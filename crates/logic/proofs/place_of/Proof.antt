@@ -63,18 +63,6 @@ enum-told-6 c = search rules
 returns-10 : tie.Need-returns-10
 returns-10 c = rw c.enum-told6.given.1
 
-enum-known-e-5 : tie.Need-enum-known-e-5
-enum-known-e-5 c = search rules
-
-enum-known-e-6 : tie.Need-enum-known-e-6
-enum-known-e-6 c = search rules
-
-returns-11 : tie.Need-returns-11
-returns-11 c = rw c.before.e5.given.1
-
-returns-12 : tie.Need-returns-12
-returns-12 c = rw c.before.e6.given.1
-
 pub place-of-spec : {M : Type 1} → statement M
 place-of-spec =
     tie.close
@@ -89,8 +77,6 @@ place-of-spec =
     enum-told-4
     enum-told-5
     enum-told-6
-    enum-known-e-5
-    enum-known-e-6
     returns
     returns-2
     returns-3
@@ -100,6 +86,4 @@ place-of-spec =
     returns-7
     returns-8
     returns-9
-    returns-10
-    returns-11
-    returns-12)
+    returns-10)

@@ -18,14 +18,14 @@ of-tick-requires c κs = search rules
 enum-known-e : tie.Need-enum-known-e
 enum-known-e c = search rules
 
-of-alive-requires : tie.Need-of-alive-requires
-of-alive-requires c κs = search rules
+of-ready-requires : tie.Need-of-ready-requires
+of-ready-requires c κs = search rules
 
 enum-known-e-2 : tie.Need-enum-known-e-2
 enum-known-e-2 c = search rules
 
-of-alive-requires-2 : tie.Need-of-alive-requires-2
-of-alive-requires-2 c κs = search rules
+of-ready-requires-2 : tie.Need-of-ready-requires-2
+of-ready-requires-2 c κs = search rules
 
 enum-known-e-3 : tie.Need-enum-known-e-3
 enum-known-e-3 c = search rules
@@ -64,10 +64,10 @@ returns-2 : tie.Need-returns-2
 returns-2 c = rw c.before.enum-told2.given.1 c.of-tick.ensures
 
 returns-3 : tie.Need-returns-3
-returns-3 c = rw c.before.before.e.given.1 c.of-alive.ensures
+returns-3 c = rw c.before.before.e.given.1 c.of-ready.ensures
 
 returns-4 : tie.Need-returns-4
-returns-4 c = rw c.before.before.e2.given.1 c.of-alive2.ensures
+returns-4 c = rw c.before.before.e2.given.1 c.of-ready2.ensures
 
 returns-5 : tie.Need-returns-5
 returns-5 c = rw c.before.before.e3.given.1 c.of-any.ensures
@@ -93,24 +93,6 @@ of-running-requires-2 c κs = search rules
 returns-10 : tie.Need-returns-10
 returns-10 c = rw c.before.enum-told4.given.1 c.of-running2.ensures
 
-enum-known-e-7 : tie.Need-enum-known-e-7
-enum-known-e-7 c = search rules
-
-of-ready-requires : tie.Need-of-ready-requires
-of-ready-requires c κs = search rules
-
-enum-known-e-8 : tie.Need-enum-known-e-8
-enum-known-e-8 c = search rules
-
-of-paused-requires : tie.Need-of-paused-requires
-of-paused-requires c κs = search rules
-
-returns-11 : tie.Need-returns-11
-returns-11 c = rw c.before.before.e7.given.1 c.of-ready.ensures
-
-returns-12 : tie.Need-returns-12
-returns-12 c = rw c.before.before.e8.given.1 c.of-paused.ensures
-
 pub row-of-spec : {M : Type 1} → statement M
 row-of-spec =
     tie.close
@@ -120,9 +102,9 @@ row-of-spec =
     enum-told-2
     of-tick-requires
     enum-known-e
-    of-alive-requires
+    of-ready-requires
     enum-known-e-2
-    of-alive-requires-2
+    of-ready-requires-2
     enum-known-e-3
     of-any-requires
     enum-known-e-4
@@ -135,10 +117,6 @@ row-of-spec =
     of-fault-requires
     enum-told-4
     of-running-requires-2
-    enum-known-e-7
-    of-ready-requires
-    enum-known-e-8
-    of-paused-requires
     returns
     returns-2
     returns-3
@@ -148,6 +126,4 @@ row-of-spec =
     returns-7
     returns-8
     returns-9
-    returns-10
-    returns-11
-    returns-12)
+    returns-10)

@@ -10,22 +10,21 @@ use Rattle.basis.specs.Choice.{pick}
 use Rattle.basis.specs.Nobody.{nobody}
 use Rattle.config.specs.declared.Config.{Config}
 use Rattle.rig_core.specs.Events.{step_of}
-use Rattle.rig_core.specs.State.{fresh_core, ready_at}
+use Rattle.rig_core.specs.State.{fresh_core}
 use Rattle.rig_core.specs.declared.Core.{Core}
 use Rattle.event.specs.declared.Event.{Event}
 use Rattle.history.proofs.Counts.{num, times_cons, times_nil}
 use Rattle.history.proofs.Effects.{asks-is, is_add, is_take, spare-is}
 use Rattle.history.proofs.Lawful.{Lawful, lawful}
 use Rattle.history.proofs.Steps.{Reached, at_fresh, step-at, vm_small}
-use Rattle.history.proofs.Ticking.{spare-first}
+use Rattle.history.proofs.Ticking.{spare-front}
 use Rattle.history.specs.History.{Behaviour, Moment, moment, moments, state_after, ticks_after, times}
 use Rattle.history.specs.Moments.{asks, handed, spare}
 use Rattle.history.specs.Queueing.{Add, Effect, Keep, Remove, Take, affected, effect, removed_from, removed_in, removes}
 use Rattle.promises.proofs.Meets.Tracing.{ours-queue}
 use Rattle.promises.specs.Sharing.{Accounts}
-use Rattle.queue.proofs.Counted.{entries_add, entries_gone, entries_stay}
-use Rattle.queue.proofs.Middle.{entries-but}
-use Rattle.queue.specs.Entries.{entries, entries_of, first_of, others}
+use Rattle.queue.proofs.Counted.{entries_add, entries_gone, entries_rest, entries_stay}
+use Rattle.queue.specs.Entries.{entries, entries_of, front_of, others}
 
 -- ---- one moment
 
@@ -41,17 +40,17 @@ module _ (g : Config) (v : ℕ) (small : v < nobody) (m : Moment) (l : Lawful g 
       idle : spare g m ≡ false → num (handed g v m) ≡ 0
       idle h = rw h
 
-      taken : spare g m ≡ true → num (handed g v m) ≡ num (eqb (first_of (ready_at m.before) q₀) v)
-      taken h = rw (h, spare-first g v small m l h)
+      taken : spare g m ≡ true → num (handed g v m) ≡ num (eqb (front_of q₀) v)
+      taken h = rw (h, spare-front g v small m l h)
 
       removal : (w : ℕ) (b : Bool) → eqb w v ≡ b → m.answer.removed ≡ entries_of w q₀ → entries_of v q₀ ≡ pick b m.answer.removed 0 + entries_of v (others w q₀)
       removal w true e r = let i = eqb-true w v e in rw (r, i, entries_gone v q₀) (omega arith)
       removal w false e r = omega (arith, entries_stay v w q₀ e)
 
-      go : (f : Effect) → effect g m ≡ f → spare g m ≡ is_take f → entries m.after.queue ≡ affected (ready_at m.before) f q₀ → m.answer.removed ≡ removed_from f q₀ → asks v m ≡ is_add v f
+      go : (f : Effect) → effect g m ≡ f → spare g m ≡ is_take f → entries m.after.queue ≡ affected f q₀ → m.answer.removed ≡ removed_from f q₀ → asks v m ≡ is_add v f
           → entries_of v q₀ + num (asks v m) ≡ num (handed g v m) + (pick (removes g v m) m.answer.removed 0 + entries_of v (entries m.after.queue))
       go Keep i k e r a = rw (i, a, idle k, e) (omega arith)
-      go Take i k e r a = rw (i, a, taken k, e) (omega (arith, entries-but (ready_at m.before) v q₀ small))
+      go Take i k e r a = rw (i, a, taken k, e) (omega (arith, entries_rest v q₀ small))
       go (Add w) i k e r a = rw (i, a, idle k, e) (omega (arith, entries_add v w q₀))
       go (Remove w) i k e r a = rw (i, a, idle k, e) (omega (arith, removal w (eqb w v) refl r))
 

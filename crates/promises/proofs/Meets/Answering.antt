@@ -19,7 +19,7 @@ use Rattle.core_laws.proofs.Copying.{copy_asks}
 use Rattle.core_laws.proofs.Facts.{sound_is}
 use Rattle.core_laws.proofs.Refused.{step_shows}
 use Rattle.core_laws.proofs.View.{call-case, copy_case, row_copy}
-use Rattle.event.specs.declared.Event.TheVariants.{Call, Copy, Extra, Fault, Pause, Restart, Resume, Shutdown, Start, Stop, Tick, Write}
+use Rattle.event.specs.declared.Event.TheVariants.{Call, Copy, Extra, Fault, Restart, Shutdown, Start, Stop, Tick, Write}
 use Rattle.event.specs.declared.Event.{Event}
 use Rattle.guest.specs.Record.{saved_at}
 use Rattle.history.proofs.Steps.{ours_at}
@@ -69,8 +69,6 @@ done_told c (Call i j at) n s r = (call_notice c i j at, call_result c i j at)
 done_told c (Write o x) n s r = (refl, refl)
 done_told c (Fault k d) n s r = (refl, refl)
 done_told c (Copy p w) n s r = (copy_notice c p w (copy_asks c n (sound_is c s) (row_copy c p w r).1 w p), copy_result c p w)
-done_told c (Pause v) n s r = (refl, refl)
-done_told c (Resume v) n s r = (refl, refl)
 
 -- A1, A2, A4 to A7
 pub ours_tells : Tells step_of

@@ -25,11 +25,11 @@ use Rattle.rig_core.specs.State.{fresh_core, full, vm_at}
 use Rattle.rig_core.specs.declared.Core.{Core}
 use Rattle.rig_core.specs.declared.Stepped.{Stepped}
 use Rattle.core_laws.proofs.View.{call-case, copy_case, row_restart, step_case}
-use Rattle.event.specs.declared.Event.TheVariants.{Call, Copy, Extra, Fault, Pause, Restart, Resume, Shutdown, Start, Stop, Tick, Write}
+use Rattle.event.specs.declared.Event.TheVariants.{Call, Copy, Extra, Fault, Restart, Shutdown, Start, Stop, Tick, Write}
 use Rattle.event.specs.declared.Event.{Event}
 use Rattle.guest.proofs.Facts.{deliver_age, deliver_ran, pend_age, pend_ran, write_age, write_ran}
 use Rattle.guest.specs.Deliver.{back_from, deliver}
-use Rattle.guest.specs.Record.{fresh, pend, saved_at, started_at, with_standing}
+use Rattle.guest.specs.Record.{ended_as, fresh, pend, saved_at, started_at}
 use Rattle.guest.specs.Write.{write}
 use Rattle.guest.specs.declared.Vm.{Vm}
 use Rattle.history.proofs.More.{moments_more, state_more}
@@ -62,7 +62,7 @@ module _ (b : Behaviour) (Inv : ℕ → Core → Type 0) (keeps : (k : ℕ) (c :
 
 record Steady (f : Vm → ℕ) : Type 0 where
   saved : (at : ℕ) (v : Vm) → f (saved_at at v) ≡ f v
-  stood : (t : ℕ) (v : Vm) → f (with_standing t v) ≡ f v
+  ended : (t : ℕ) (v : Vm) → f (ended_as t v) ≡ f v
   back : (v : Vm) → f (back_from v) ≡ f v
   pended : (n : ℕ) (v : Vm) → f (pend n v) ≡ f v
   wrote : (o x : ℕ) (v : Vm) → f (write o x v) ≡ f v
@@ -70,10 +70,10 @@ record Steady (f : Vm → ℕ) : Type 0 where
   begun : (a : ℕ) → f (started_at a) ≡ 0
 
 steady_age : Steady (λ v. v.age)
-steady_age = record { saved = λ at v. refl; stood = λ t v. refl; back = λ v. refl; pended = pend_age; wrote = write_age; given = deliver_age; begun = λ a. refl }
+steady_age = record { saved = λ at v. refl; ended = λ t v. refl; back = λ v. refl; pended = pend_age; wrote = write_age; given = deliver_age; begun = λ a. refl }
 
 steady_ran : Steady (λ v. v.ran)
-steady_ran = record { saved = λ at v. refl; stood = λ t v. refl; back = λ v. refl; pended = pend_ran; wrote = write_ran; given = deliver_ran; begun = λ a. refl }
+steady_ran = record { saved = λ at v. refl; ended = λ t v. refl; back = λ v. refl; pended = pend_ran; wrote = write_ran; given = deliver_ran; begun = λ a. refl }
 
 change_keeps : (f : Vm → ℕ) (c : Core) (v : ℕ) (x : Change) → f x.vm ≡ f (vm_at c x.place) → f (vm_at (changed_by c x).core v) ≡ f (vm_at c v)
 change_keeps f c v x h = store_keeps f c.vms x.place x.vm h v
@@ -94,8 +94,8 @@ module _ (f : Vm → ℕ) (steady : Steady f) (g : Config) (d : Given g) (v : �
     call_keeps s n at =
         change_keeps f c v (called c c.running s n w)
         (call-case (λ (x : Change). f x.vm ≡ f (vm_at c x.place)) c.running c.queue (full c) (handler_at c.config c.running) c.running s n w
-        (λ h. steady.given _ w ∙ old) (λ h. steady.given _ (back_from w) ∙ steady.back w ∙ old) (λ h i. steady.given _ (pend n w) ∙ steady.pended n w ∙ old) (λ h i. steady.stood 4 w ∙ old)
-        (λ h. steady.stood 3 w ∙ old) (λ h i. old) (λ h i. old) (λ h. steady.stood 4 w ∙ old))
+        (λ h. steady.given _ w ∙ old) (λ h. steady.given _ (back_from w) ∙ steady.back w ∙ old) (λ h i. steady.given _ (pend n w) ∙ steady.pended n w ∙ old) (λ h i. steady.ended 4 w ∙ old)
+        (λ h. steady.ended 3 w ∙ old) (λ h i. old) (λ h i. old) (λ h. steady.ended 4 w ∙ old))
       where
         w : Vm
         w = saved_at at (vm_at c c.running)
@@ -118,7 +118,7 @@ module _ (f : Vm → ℕ) (steady : Steady f) (g : Config) (d : Given g) (v : �
     unfolding begins done
     done_grown Start r = ap f (start-ready g d k c p v low) ∙ steady.begun (entry_at g v)
     done_grown (Tick at) r = moves at
-    done_grown (Stop w) r = quiet_law (moment_of k c (Stop w) (done c (Stop w))) refl refl refl (change_keeps f c v (ending c w (vm_at c w) 2 (notice_of 1 w)) (steady.stood 2 (vm_at c w)))
+    done_grown (Stop w) r = quiet_law (moment_of k c (Stop w) (done c (Stop w))) refl refl refl (change_keeps f c v (ending c w (vm_at c w) 2 (notice_of 1 w)) (steady.ended 2 (vm_at c w)))
     done_grown (Shutdown w) r = quiet_law (moment_of k c (Shutdown w) (done c (Shutdown w))) refl refl refl (change_keeps f c v (renewed c w (pend 11 (vm_at c w)) nobody) (steady.pended 11 (vm_at c w)))
     done_grown (Restart w) r = go (eqb w v) refl (restart_law w (row_restart c w r).1)
       where
@@ -131,14 +131,12 @@ module _ (f : Vm → ℕ) (steady : Steady f) (g : Config) (d : Given g) (v : �
     done_grown (Extra w) r = quiet_law (moment_of k c (Extra w) (done c (Extra w))) refl refl refl (change_keeps f c v (queueing c w (vm_at c w)) refl)
     done_grown (Call s n at) r = quiet_law (moment_of k c (Call s n at) (done c (Call s n at))) refl refl refl (call_keeps s n at)
     done_grown (Write o x) r = quiet_law (moment_of k c (Write o x) (done c (Write o x))) refl refl refl (change_keeps f c v (renewed c c.running (write o x (vm_at c c.running)) nobody) (steady.wrote o x (vm_at c c.running)))
-    done_grown (Fault n x) r = quiet_law (moment_of k c (Fault n x) (done c (Fault n x))) refl refl refl (change_keeps f c v (failing c c.running (vm_at c c.running) n x) (steady.stood 4 (vm_at c c.running)))
+    done_grown (Fault n x) r = quiet_law (moment_of k c (Fault n x) (done c (Fault n x))) refl refl refl (change_keeps f c v (failing c c.running (vm_at c c.running) n x) (steady.ended 4 (vm_at c c.running)))
     done_grown (Copy q w) r =
         quiet_law (moment_of k c (Copy q w) (done c (Copy q w))) refl refl refl
         (change_keeps f c v (copying c w q)
         (copy_case (λ (x : Change). f x.vm ≡ f (vm_at c x.place)) c.running c.queue c.running (saved_at q.next (vm_at c c.running)) (failure_of c w q).code (failure_of c w q).detail
-        (λ h. steady.saved q.next (vm_at c c.running)) (λ h. steady.stood 4 _ ∙ steady.saved q.next (vm_at c c.running))))
-    done_grown (Pause w) r = quiet_law (moment_of k c (Pause w) (done c (Pause w))) refl refl refl (change_keeps f c v (renewed c w (with_standing 5 (vm_at c w)) nobody) (steady.stood 5 (vm_at c w)))
-    done_grown (Resume w) r = quiet_law (moment_of k c (Resume w) (done c (Resume w))) refl refl refl (change_keeps f c v (renewed c w (with_standing 1 (vm_at c w)) nobody) (steady.stood 1 (vm_at c w)))
+        (λ h. steady.saved q.next (vm_at c c.running)) (λ h. steady.ended 4 _ ∙ steady.saved q.next (vm_at c c.running))))
 
     step_grown : (e : Event) → f (vm_at (step_of c e).core v) ≡ grown (moment step_of k c e)
     unfolding refused begins
@@ -229,7 +227,5 @@ ours_shows g d es (Restart w) v low h = no_tick (went (next step_of g es (Restar
 ours_shows g d es (Extra w) v low h = no_tick (went (next step_of g es (Extra w))) _ h
 ours_shows g d es (Call i n at) v low h = no_tick (went (next step_of g es (Call i n at))) _ h
 ours_shows g d es (Write o x) v low h = no_tick (went (next step_of g es (Write o x))) _ h
-ours_shows g d es (Pause w) v low h = no_tick (went (next step_of g es (Pause w))) _ h
-ours_shows g d es (Resume w) v low h = no_tick (went (next step_of g es (Resume w))) _ h
 ours_shows g d es (Fault i x) v low h = no_tick (went (next step_of g es (Fault i x))) _ h
 ours_shows g d es (Copy q w) v low h = no_tick (went (next step_of g es (Copy q w))) _ h

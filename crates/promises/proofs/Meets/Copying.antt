@@ -5,18 +5,16 @@ use lib.Dec.{eqb}
 use lib.ListN.{take}
 use mathlib.Core.Bool.{Bool, false, not, true}
 use mathlib.Core.List.{List}
-use mathlib.Core.Logic.{⊎_elim}
 use mathlib.Core.Path.{ap, refl, subst, sym, ◌∙◌, ◌≡◌}
 use native.Mathlib.Omega.{arith}
 use Rattle.basis.proofs.Laws.{both_left, both_right, false_true}
 use Rattle.basis.specs.Choice.{both, pick}
-use Rattle.rig_core.proofs.Copying.{by_refusal, copies-done, notice-told, other_event, refusal-told, stays-failed, stays-refused}
+use Rattle.rig_core.proofs.Copying.{by_refusal, copies-done, notice-told, refusal-told, stays-failed, stays-refused}
 use Rattle.rig_core.specs.Events.{done, failure_of, step_of}
-use Rattle.rig_core.specs.Memory.{memory_after}
+use Rattle.rig_core.specs.Memory.{memory_after, memory_as}
 use Rattle.rig_core.specs.Refusals.{refusal_of, refused}
 use Rattle.rig_core.specs.declared.Core.{Core}
-use Rattle.event.proofs.Asking.{copy_or_not}
-use Rattle.event.specs.declared.Event.TheVariants.{Copy}
+use Rattle.event.specs.declared.Event.TheVariants.{Call, Copy, Extra, Fault, Restart, Shutdown, Start, Stop, Tick, Write}
 use Rattle.event.specs.declared.Event.{Event}
 use Rattle.history.specs.History.{moment, state_of, ticks_of}
 use Rattle.promises.specs.Copying.{Copies, copying}
@@ -55,10 +53,17 @@ module _ (k : ℕ) (c : Core) (p : Pieces) (w : Window) where
       go false b x y z = sym (stays-refused c p w n (step_of c (Copy p w)) form bytes (λ i. false_true (sym x ∙ ap (λ (n : ℕ). eqb n 0) i)))
 
 stays : (k : ℕ) (c : Core) (e : Event) (bytes : List ℕ) → copying (moment step_of k c e) ≡ false → memory_after c e bytes ≡ bytes
-stays k c e bytes h = ⊎_elim (λ i. other_event (refusal_of c e) c e bytes i) copied (copy_or_not e)
-  where
-    copied : (p : Pieces) × (w : Window) × (e ≡ Copy p w) → memory_after c e bytes ≡ bytes
-    copied (p, w, is) = ap (λ (x : Event). memory_after c x bytes) is ∙ copy_stays k c p w bytes (subst (λ (x : Event). copying (moment step_of k c x) ≡ false) is h)
+unfolding memory_as
+stays k c Start bytes h = refl
+stays k c (Tick at) bytes h = refl
+stays k c (Stop v) bytes h = refl
+stays k c (Shutdown v) bytes h = refl
+stays k c (Restart v) bytes h = refl
+stays k c (Extra v) bytes h = refl
+stays k c (Call i n at) bytes h = refl
+stays k c (Write o x) bytes h = refl
+stays k c (Fault i x) bytes h = refl
+stays k c (Copy p w) bytes h = copy_stays k c p w bytes h
 
 -- D35 to D37, C11
 pub ours_copies : Copies memory_after step_of

@@ -25,12 +25,12 @@ use Rattle.rig_core.specs.declared.Stepped.{Stepped}
 use Rattle.core_laws.proofs.Facts.{running-below, sound_is}
 use Rattle.core_laws.proofs.Refused.{done_number}
 use Rattle.core_laws.proofs.View.{call-case, copy_case, row_call, row_copy, row_shutdown, step_case}
-use Rattle.event.specs.declared.Event.TheVariants.{Call, Copy, Extra, Fault, Pause, Restart, Resume, Shutdown, Start, Stop, Tick, Write}
+use Rattle.event.specs.declared.Event.TheVariants.{Call, Copy, Extra, Fault, Restart, Shutdown, Start, Stop, Tick, Write}
 use Rattle.event.specs.declared.Event.{Event}
 use Rattle.guest.proofs.Facts.{deliver_hit, deliver_quiet, pend_address, pend_enabled, pend_pending}
 use Rattle.guest.specs.Bits.{clear_bit}
 use Rattle.guest.specs.Deliver.{back_from, deliver, enter, shown}
-use Rattle.guest.specs.Record.{fresh, pend, saved_at, with_standing}
+use Rattle.guest.specs.Record.{ended_as, fresh, pend, saved_at}
 use Rattle.guest.specs.declared.Delivery.{Delivery}
 use Rattle.guest.specs.declared.Status.{Status}
 use Rattle.guest.specs.declared.Vm.{Vm}
@@ -136,7 +136,7 @@ module _ (g : Config) (d : Given g) (k : ℕ) (c : Core) (p : Reached g k c) whe
         call_is (called c c.running s n vm) refl Passes
         (call-case (λ (x : Change). Passes (of x)) c.running c.queue (full c) (handler_at c.config c.running) c.running s n vm
         (λ e. false_true (sym (rw e at h))) (λ e. false_true (sym (rw e at h))) (λ e i. false_true (sym (rw (e, le-leb n 31 i) at h)))
-        (λ e i. (refl, stays (with_standing 4 vm) refl)) (λ e. (refl, stays (with_standing 3 vm) refl)) (λ e i. (refl, stays vm refl)) (λ e i. (refl, stays vm refl)) (λ e. (refl, stays (with_standing 4 vm) refl)))
+        (λ e i. (refl, stays (ended_as 4 vm) refl)) (λ e. (refl, stays (ended_as 3 vm) refl)) (λ e i. (refl, stays vm refl)) (λ e i. (refl, stays vm refl)) (λ e. (refl, stays (ended_as 4 vm) refl)))
       where
         stays : (w : Vm) → w.address ≡ at → (get_or (set c.vms c.running w) c.running fresh).address ≡ at
         stays w e = ap (λ (x : Vm). x.address) (stored_at c.running w low) ∙ e
@@ -182,9 +182,7 @@ module _ (g : Config) (d : Given g) (k : ℕ) (c : Core) (p : Reached g k c) whe
       both : Passes (copying c w q)
       both =
           copy_case Passes c.running c.queue c.running vm (failure_of c w q).code (failure_of c w q).detail
-          (λ h. (refl, stays vm refl)) (λ h. (refl, stays (with_standing 4 vm) refl))
-  done_delivers (Pause v) s r = refl
-  done_delivers (Resume v) s r = refl
+          (λ h. (refl, stays vm refl)) (λ h. (refl, stays (ended_as 4 vm) refl))
 
   step_delivers : (ms : List Moment) (e : Event) → DeliversOf g ms (moment step_of k c e)
   unfolding refused

@@ -23,7 +23,7 @@ use Rattle.rig_core.specs.declared.Core.{Core}
 use Rattle.rig_core.specs.declared.Stepped.{Stepped}
 use Rattle.core_laws.proofs.Facts.{running-below, sound_is}
 use Rattle.core_laws.proofs.View.{call-case, copy_case, row_call, row_copy, row_restart, row_shutdown, row_write}
-use Rattle.event.specs.declared.Event.TheVariants.{Call, Copy, Extra, Fault, Pause, Restart, Resume, Shutdown, Start, Stop, Tick, Write}
+use Rattle.event.specs.declared.Event.TheVariants.{Call, Copy, Extra, Fault, Restart, Shutdown, Start, Stop, Tick, Write}
 use Rattle.event.specs.declared.Event.{Event}
 use Rattle.guest.proofs.Facts.{pend_address, write_address}
 use Rattle.guest.proofs.Laws.{due_few}
@@ -40,7 +40,7 @@ use Rattle.promises.proofs.Fields.{each_field}
 use Rattle.promises.proofs.Meets.Starting.{when_done}
 use Rattle.promises.proofs.Meets.Ticks.{passed_of, tick-enters, tick_number, tick_passes}
 use Rattle.promises.proofs.Meets.Tracing.{in_list, put_at}
-use Rattle.promises.specs.Framing.{Enabled, Field, Framed, Left, OnTick, Pending, Previous, Reason, Restore, ResumeAt, Running, Since, Stores, is_field, moves_by, names_by, of_call, of_delivery, of_tick, offset_of, value_of}
+use Rattle.promises.specs.Framing.{Enabled, Field, Framed, Left, OnTick, Pending, Previous, Reason, Restore, Resume, Running, Since, Stores, is_field, moves_by, names_by, of_call, of_delivery, of_tick, offset_of, value_of}
 use Rattle.vms.proofs.Records.{passed-address, passed_status, store_keeps}
 use Rattle.vms.specs.Tick.{number_of}
 
@@ -63,7 +63,7 @@ merged t new old =
       left = pick (t Left) new.left old.left;
       enabled = pick (t Enabled) new.enabled old.enabled;
       pending = pick (t Pending) new.pending old.pending;
-      resume = pick (t ResumeAt) new.resume old.resume;
+      resume = pick (t Resume) new.resume old.resume;
       reason = pick (t Reason) new.reason old.reason;
       previous = pick (t Previous) new.previous old.previous;
       restore = pick (t Restore) new.restore old.restore;
@@ -204,8 +204,6 @@ module _ (g : Config) (d : Given g) (k : ℕ) (c : Core) (p : Reached g k c) whe
   done_field (Copy q w) s r v l f h =
       copy_case (λ (x : Change). value_of f (vm_at (changed_by c x).core v).status ≡ value_of f (vm_at c v).status) c.running c.queue c.running (saved_at q.next (vm_at c c.running)) (failure_of c w q).code (failure_of c w q).detail
       (λ i. keeps_field c.running v _ f refl) (λ i. keeps_field c.running v _ f refl)
-  done_field (Pause w) s r v l f h = keeps_field w v _ f refl
-  done_field (Resume w) s r v l f h = keeps_field w v _ f refl
 
   done_address : (e : Event) → sound c ≡ true → row_of c e ≡ 0 → (v : ℕ) → v < g.count → moves_by v (moment_of k c e (done c e)) e ≡ false → (vm_at (done c e).core v).address ≡ (vm_at c v).address
   unfolding done
@@ -224,8 +222,6 @@ module _ (g : Config) (d : Given g) (k : ℕ) (c : Core) (p : Reached g k c) whe
     where
       out : (y : Vm) → (get_or (set c.vms c.running y) v fresh).address ≡ (vm_at c v).address
       out y = put_part (λ x. x.address) c.running y v (runner_low s (row_copy c q w r).1) (λ e. false_true (sym h ∙ e))
-  done_address (Pause w) s r v l h = store_keeps (λ x. x.address) c.vms w _ refl v
-  done_address (Resume w) s r v l h = store_keeps (λ x. x.address) c.vms w _ refl v
 
   done_stores : (o x : ℕ) → sound c ≡ true → row_of c (Write o x) ≡ 0 → (f : Field) → o ≡ offset_of f → value_of f (vm_at (done c (Write o x)).core c.running).status ≡ x
   unfolding done

@@ -1,41 +1,33 @@
 -- Ours meets the first demand: what is refused, with which number, and that it changes nothing.
 use Prim.Native.Nat.{ℕ}
-use lib.Dec.{eqb}
 use mathlib.Core.Bool.{Bool, false, not, true}
 use mathlib.Core.Path.{ap, refl, sym, ◌∙◌, ◌≡◌}
-use Rattle.basis.specs.Choice.{both, either, pick}
+use Rattle.basis.specs.Choice.{pick}
 use Rattle.rig_core.specs.Events.{step_of}
 use Rattle.rig_core.specs.Refusals.{refusal_of, refused, row_of}
 use Rattle.rig_core.specs.Sound.{sound}
-use Rattle.rig_core.specs.State.{vm_at}
 use Rattle.rig_core.specs.declared.Core.{Core}
 use Rattle.rig_core.specs.declared.Stepped.{Stepped}
 use Rattle.core_laws.proofs.Refused.{step_number}
 use Rattle.core_laws.proofs.View.{step_refused}
-use Rattle.event.specs.declared.Event.TheVariants.{Call, Copy, Extra, Fault, Pause, Restart, Resume, Shutdown, Start, Stop, Tick, Write}
+use Rattle.event.specs.declared.Event.TheVariants.{Call, Copy, Extra, Fault, Restart, Shutdown, Start, Stop, Tick, Write}
 use Rattle.event.specs.declared.Event.{Event}
 use Rattle.guest.specs.Write.{is_field}
 use Rattle.promises.specs.Refusing.{Refuses, first_of, lines_by, lines_of, says_no}
-
-not_either : (a b : Bool) → not (either a b) ≡ both (not a) (not b)
-not_either true b = refl
-not_either false b = refl
 
 -- R1, R5: the rows of the core's definition, asked of an event, are the lines of its own
 lines_rows : (c : Core) (e : Event) → first_of (lines_by c e) ≡ row_of c e
 unfolding first_of row_of is_field
 lines_rows c Start = refl
 lines_rows c (Tick at) = refl
-lines_rows c (Stop v) = rw (not_either (eqb (vm_at c v).standing 1) (eqb (vm_at c v).standing 5))
-lines_rows c (Shutdown v) = rw (not_either (eqb (vm_at c v).standing 1) (eqb (vm_at c v).standing 5))
+lines_rows c (Stop v) = refl
+lines_rows c (Shutdown v) = refl
 lines_rows c (Restart v) = refl
 lines_rows c (Extra v) = refl
 lines_rows c (Call s n at) = refl
 lines_rows c (Write o x) = refl
 lines_rows c (Fault k d) = refl
 lines_rows c (Copy p w) = refl
-lines_rows c (Pause v) = refl
-lines_rows c (Resume v) = refl
 
 pub lines_first : (c : Core) (e : Event) → first_of (lines_of c e) ≡ refusal_of c e
 unfolding first_of lines_of refusal_of

@@ -7,7 +7,6 @@ use native.Mathlib.Omega.{arith}
 use Rattle.basis.proofs.Laws.{false_true}
 use Rattle.config.specs.declared.Config.{Config}
 use Rattle.rig_core.specs.Events.{step_of}
-use Rattle.rig_core.specs.State.{ready_at}
 use Rattle.core_laws.proofs.Events.{sound_step}
 use Rattle.core_laws.proofs.Facts.{entries-len, sound_is}
 use Rattle.history.proofs.Lawful.{Lawful, lawful}
@@ -24,7 +23,7 @@ use Rattle.queue.specs.Entries.{entries}
 removed_law : (g : Config) (m : Moment) → Lawful g m → (v : ℕ) → removes g v m ≡ true → length (entries m.before.queue) ≡ length (entries m.after.queue) + m.answer.removed
 removed_law g m l v = go (effect g m) l.queue l.removed
   where
-    go : (f : Effect) → entries m.after.queue ≡ affected (ready_at m.before) f (entries m.before.queue) → m.answer.removed ≡ removed_from f (entries m.before.queue)
+    go : (f : Effect) → entries m.after.queue ≡ affected f (entries m.before.queue) → m.answer.removed ≡ removed_from f (entries m.before.queue)
         → is_remove v f ≡ true → length (entries m.before.queue) ≡ length (entries m.after.queue) + m.answer.removed
     go Keep q r h = false_true h
     go Take q r h = false_true h

@@ -1,39 +1,40 @@
 -- Ours meets the second demand on who runs: at a tick whom table, standing and queue of the history name, between ticks the same VM.
-use Prim.Native.Nat.{ℕ}
+use Prim.Native.Nat.{ℕ, ◌<◌}
 use borrow.Author.Tests.{le-leb, lt-leb, ne_eqb}
 use lib.Dec.{eqb}
-use mathlib.Core.Bool.{Bool, false, true}
+use mathlib.Core.Bool.{Bool, false, not, true}
 use mathlib.Core.List.{List}
-use mathlib.Core.Path.{ap, refl, sym, ◌∙◌, ◌≡◌}
+use mathlib.Core.Logic.{◌⊎◌, ⊎_elim}
+use mathlib.Core.Path.{ap, refl, subst, sym, ◌∙◌, ◌≡◌}
 use native.Mathlib.Omega.{arith}
 use Rattle.basis.proofs.Laws.{eqb_same, eqb_swap, false_true}
 use Rattle.basis.specs.Choice.{pick}
 use Rattle.basis.specs.Nobody.{nobody}
 use Rattle.change.specs.Changes.{running_without}
 use Rattle.change.specs.declared.Change.{Change}
+use Rattle.config.proofs.Legality.{legal_is}
 use Rattle.config.specs.Ranges.{Given}
 use Rattle.config.specs.Sizes.{handler_at, is_spare}
 use Rattle.config.specs.declared.Config.{Config}
 use Rattle.rig_core.specs.Changes.{changed_by}
-use Rattle.rig_core.specs.Events.{done, failure_of, start_core, step_of}
+use Rattle.rig_core.specs.Events.{done, failure_of, start_core, step_of, tick_clock}
 use Rattle.rig_core.specs.State.{full, ready_at, vm_at}
 use Rattle.rig_core.specs.declared.Core.{Core}
 use Rattle.rig_core.specs.declared.Stepped.{Stepped}
 use Rattle.core_laws.proofs.View.{call-case, copy_case}
 use Rattle.event.specs.Kinds.{is_tick}
-use Rattle.event.specs.declared.Event.TheVariants.{Call, Copy, Extra, Fault, Pause, Restart, Resume, Shutdown, Start, Stop, Tick, Write}
+use Rattle.event.specs.declared.Event.TheVariants.{Call, Copy, Extra, Fault, Restart, Shutdown, Start, Stop, Tick, Write}
 use Rattle.event.specs.declared.Event.{Event}
 use Rattle.guest.specs.Record.{saved_at}
 use Rattle.history.proofs.Lawful.{lawful, runner_by}
-use Rattle.history.proofs.Scenes.{ready_told}
-use Rattle.history.proofs.Steps.{ours_at}
+use Rattle.history.proofs.Steps.{Reached, ours_at, tick-placed}
 use Rattle.history.specs.History.{Moment, history, state_of, ticks_of}
-use Rattle.history.specs.Telling.{chosen_in, ended_by, is_end, queue_in, ready_in, scene_in}
+use Rattle.history.specs.Telling.{chosen_in, ended_by, queue_in}
 use Rattle.promises.proofs.Meets.Answering.{ours_tells}
 use Rattle.promises.proofs.Meets.Starting.{when_done}
-use Rattle.promises.proofs.Meets.Tracing.{ours-scene}
+use Rattle.promises.proofs.Meets.Tracing.{ours-queue, ours-standing}
 use Rattle.promises.specs.Tracing.{Runs}
-use Rattle.queue.specs.Entries.{first_of}
+use Rattle.queue.specs.Entries.{front_of}
 use Rattle.table.specs.Place.{table_at}
 use Rattle.vms.specs.Tick.{runner_of}
 
@@ -44,17 +45,13 @@ module _ (c : Core) where
   abbrev GoesOn : Event → Stepped → Type 0
   GoesOn e x = x.core.running ≡ pick (ended_by c.running c.running x.answer e) 255 c.running
 
-  stopped : (b : Bool) → pick b 255 c.running ≡ pick (is_end (pick b 2 1)) 255 c.running
+  stopped : (b : Bool) → pick b 255 c.running ≡ pick (not (eqb (pick b 2 1) 1)) 255 c.running
   stopped true = refl
   stopped false = refl
 
-  restarted : (b : Bool) → c.running ≡ pick (is_end (pick b 1 1)) 255 c.running
+  restarted : (b : Bool) → c.running ≡ pick (not (eqb (pick b 1 1) 1)) 255 c.running
   restarted true = refl
   restarted false = refl
-
-  paused : (b : Bool) → c.running ≡ pick (is_end (pick b 5 1)) 255 c.running
-  paused true = refl
-  paused false = refl
 
   call_running : (s n at : ℕ) → GoesOn (Call s n at) (done c (Call s n at))
   unfolding done running_without
@@ -80,10 +77,14 @@ module _ (c : Core) where
   done_running (Copy p w) h =
       copy_case (λ (x : Change). GoesOn (Copy p w) (changed_by c x)) c.running c.queue c.running (saved_at p.next (vm_at c c.running)) (failure_of c w p).code (failure_of c w p).detail
       (λ e. refl) (λ e. rw (eqb_same c.running))
-  done_running (Pause v) h = paused (eqb v c.running)
-  done_running (Resume v) h = restarted (eqb v c.running)
 
 -- ---- at a tick
+
+-- whom the table names is a VM of the configuration, or nobody
+named_few : (g : Config) → Given g → (k : ℕ) (c : Core) → Reached g k c → (table_at g k ≡ nobody) ⊎ (table_at g k < g.count)
+named_few g d k c p =
+    let t = tick-placed g d k c p in
+    subst (λ (o : ℕ). (o ≡ nobody) ⊎ (o < g.count)) t.owner ((legal_is g d.legal).owned (tick_clock c).slot t.slot)
 
 module _ (g : Config) (d : Given g) (es : List Event) where
   abbrev k : ℕ
@@ -95,17 +96,16 @@ module _ (g : Config) (d : Given g) (es : List Event) where
   abbrev ms : List Moment
   ms = history step_of g es
 
-  -- who is ready by the history is ready in the state
-  ready : ready_in g (scene_in g ms) ≡ ready_at c
-  ready = ready_told g k c (scene_in g ms) (ours_at g d es) (ours-scene g d es)
-
   chosen : runner_by c (table_at g k) ≡ chosen_in g (table_at g k) ms
   unfolding runner_of
   chosen =
-      sym (ap (λ (r : ℕ → Bool). pick (is_spare (table_at g k)) (first_of r (queue_in g ms)) (pick (r (table_at g k)) (table_at g k) nobody)) ready
-      ∙ ap (λ (q : List ℕ). pick (is_spare (table_at g k)) (first_of (ready_at c) q) (pick (ready_at c (table_at g k)) (table_at g k) nobody)) (ours-scene g d es).queue)
+      ⊎_elim
+      (λ z. rw z (ap front_of (ours-queue g d es)))
+      (λ l. ap (λ (q : List ℕ). pick (is_spare (table_at g k)) (front_of q) (pick (ready_at c (table_at g k)) (table_at g k) nobody)) (ours-queue g d es)
+      ∙ ap (λ (t : ℕ). pick (is_spare (table_at g k)) (front_of (queue_in g ms)) (pick (eqb t 1) (table_at g k) nobody)) (ours-standing g d es (table_at g k) l))
+      (named_few g d k c (ours_at g d es))
 
--- D2, D6, D7, D15, D19, D23, D28, D39, D41
+-- D2, D6, D7, D15, D19, D23, D28
 pub ours_runs : Runs step_of
 ours_runs g d es e =
     record {

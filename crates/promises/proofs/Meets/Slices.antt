@@ -1,45 +1,31 @@
--- Ours meets the third demand on slices: a VM runs in the ticks named for it at which it is ready, and else only in spare ticks that took its entries.
+-- Ours meets the third demand on slices: a VM runs in the ticks named for it, and else only in spare ticks that took its entries.
 use Prim.Native.Nat.{ℕ, ◌+◌, ◌<◌, ◌≤◌}
+use borrow.Author.Tests.{eq-eqb}
 use mathlib.Core.Bool.{Bool, false, true}
 use mathlib.Core.List.{List, [], ◌∷◌}
-use mathlib.Core.Path.{ap, refl, sym, ◌∙◌, ◌≡◌}
+use mathlib.Core.Path.{refl, sym, ◌∙◌, ◌≡◌}
 use native.Mathlib.Omega.{arith}
-use Rattle.basis.proofs.Laws.{both_left, both_right, false_true}
-use Rattle.basis.specs.Choice.{both, pick}
+use Rattle.basis.proofs.Laws.{false_true}
+use Rattle.basis.specs.Choice.{both}
 use Rattle.basis.specs.Nobody.{nobody}
 use Rattle.config.specs.Ranges.{Given}
 use Rattle.config.specs.declared.Config.{Config}
 use Rattle.rig_core.specs.Events.{step_of}
-use Rattle.rig_core.specs.State.{ready_at}
+use Rattle.rig_core.specs.State.{ready_at, vm_at}
 use Rattle.rig_core.specs.declared.Core.{Core}
 use Rattle.event.specs.declared.Event.{Event}
 use Rattle.history.proofs.Counts.{num, times_cons, times_nil}
-use Rattle.history.proofs.Effects.{is_take, spare-is}
 use Rattle.history.proofs.Lawful.{Lawful, lawful}
-use Rattle.history.proofs.More.{each-of-told}
-use Rattle.history.proofs.Scenes.{SceneOf, ready_told, told-cons, told-nil}
+use Rattle.history.proofs.More.{each-told}
 use Rattle.history.proofs.Steps.{Reached, ours_at, step-at, vm_small}
-use Rattle.history.proofs.Ticking.{else-spare, handed-first, named-ready, named-runs, tick-of}
-use Rattle.history.specs.History.{Moment, history, moment, moments, state_of, stretch, ticking, ticks_after, ticks_of, times}
+use Rattle.history.proofs.Ticking.{else-spare, handed-front, named-runs, tick-of}
+use Rattle.history.specs.History.{Behaviour, Moment, moment, moments, state_of, stretch, ticking, ticks_after, ticks_of, times}
 use Rattle.history.specs.Moments.{asks, handed, naming, ran_in, runs, spare}
-use Rattle.history.specs.Queueing.{Add, Effect, Keep, Remove, Take, effect}
-use Rattle.history.specs.Telling.{EachTold, Scene, due, ready_in, scene_after, scene_in, times_told}
+use Rattle.history.specs.Telling.{queue_after, standing_after}
 use Rattle.promises.proofs.Meets.Accounts.{balance}
-use Rattle.promises.proofs.Meets.Tracing.{ours-queue, ours-scene, step-scene}
-use Rattle.promises.specs.Sharing.{Left, Slices}
-use Rattle.queue.specs.Entries.{entries, entries_of, first_of, without_first}
-
--- the oldest entry whose VM is ready leaves
-first_left : (p : ℕ → Bool) (v : ℕ) (q : List ℕ) → v < nobody → first_of p q ≡ v → Left p v q (without_first p q)
-unfolding first_of without_first
-first_left p v [] h e = absurd (omega arith)
-first_left p v (x ∷ q) h e = go (p x) refl (first_left p v q h) e
-  where
-    go : (b : Bool) → p x ≡ b → (first_of p q ≡ v → Left p v q (without_first p q)) → pick b x (first_of p q) ≡ v → Left p v (x ∷ q) (pick b q (x ∷ without_first p q))
-    go true i f e = record { is-ready = rw (← e) i; passed = []; behind = q; was = rw e; stays = refl; none-ready = tt }
-    go false i f e =
-        let l = f e in
-        record { is-ready = l.is-ready; passed = x ∷ l.passed; behind = l.behind; was = ap (λ (y : List ℕ). x ∷ y) l.was; stays = ap (λ (y : List ℕ). x ∷ y) l.stays; none-ready = (i, l.none-ready) }
+use Rattle.promises.proofs.Meets.Tracing.{ours-queue, ours-standing, step-queue, step-standing}
+use Rattle.promises.specs.Sharing.{EachQueued, EachStanding, Slices}
+use Rattle.queue.specs.Entries.{entries, entries_of, front_of}
 
 -- ---- one moment
 
@@ -49,8 +35,8 @@ module _ (g : Config) (v : ℕ) (small : v < nobody) (m : Moment) (l : Lawful g 
   named_off t w = rw t
 
   -- the ticks that run v, one by one
-  exact_law : num (ran_in v m) ≡ num (both (naming g v m) (ready_at m.before v)) + num (handed g v m)
-  exact_law = by_tick (ticking m) refl
+  pub exact_law : (ticking m ≡ true → ready_at m.before v ≡ true) → num (ran_in v m) ≡ num (naming g v m) + num (handed g v m)
+  exact_law ready = by_tick (ticking m) refl
     where
       not_spare : naming g v m ≡ true → spare g m ≡ false
       not_spare h = go (spare g m) refl
@@ -59,91 +45,71 @@ module _ (g : Config) (v : ℕ) (small : v < nobody) (m : Moment) (l : Lawful g 
           go true e = absurd (omega (arith, (tick-of g v small m l v h).1, (tick-of g v small m l nobody e).1))
           go false e = refl
 
-      off : (b : Bool) → 0 ≡ 0 + num (both b false)
-      off true = refl
-      off false = refl
-
-      idle : naming g v m ≡ true → runs v m ≡ false → ready_at m.before v ≡ false
-      idle h e = go (ready_at m.before v) refl
-        where
-          go : (b : Bool) → ready_at m.before v ≡ b → b ≡ false
-          go true y = false_true (sym e ∙ named-runs g v small m l h y)
-          go false y = refl
-
-      by_named : ticking m ≡ true → (b r : Bool) → naming g v m ≡ b → runs v m ≡ r → num r ≡ num (both b (ready_at m.before v)) + num (both (spare g m) r)
-      by_named t true true h e = rw (not_spare h, named-ready g v small m l h e)
-      by_named t true false h e = rw (idle h e) (off (spare g m))
+      by_named : ticking m ≡ true → (b r : Bool) → naming g v m ≡ b → runs v m ≡ r → num r ≡ num b + num (both (spare g m) r)
+      by_named t true true h e = rw (not_spare h)
+      by_named t true false h e = false_true (sym e ∙ named-runs g v small m l h (ready t))
       by_named t false true h e = rw (else-spare g v small m l t e h)
       by_named t false false h e = off (spare g m)
+        where
+          off : (b : Bool) → 0 ≡ 0 + num (both b false)
+          off true = refl
+          off false = refl
 
-      by_tick : (b : Bool) → ticking m ≡ b → num (ran_in v m) ≡ num (both (naming g v m) (ready_at m.before v)) + num (handed g v m)
+      by_tick : (b : Bool) → ticking m ≡ b → num (ran_in v m) ≡ num (naming g v m) + num (handed g v m)
       by_tick true t = rw t (by_named t (naming g v m) (runs v m) refl refl)
       by_tick false t = rw (t, named_off t v, named_off t nobody)
 
--- a spare tick takes an entry
-spare_takes : (g : Config) (m : Moment) → spare g m ≡ true → effect g m ≡ Take
-spare_takes g m h = go (effect g m) (sym (spare-is g m) ∙ h)
-  where
-    go : (f : Effect) → is_take f ≡ true → f ≡ Take
-    go Keep k = false_true k
-    go Take k = refl
-    go (Add w) k = false_true k
-    go (Remove w) k = false_true k
+-- ---- a stretch of any behaviour whose moments are lawful, and whose standings go by them
 
--- ---- ours, over any stretch
+module _ (g : Config) (b : Behaviour) (Inv : ℕ → Core → Type 0)
+    (keeps : (k : ℕ) (c : Core) → Inv k c → (e : Event) → Inv (ticks_after (moment b k c e)) (b c e).core)
+    (law : (k : ℕ) (c : Core) → Inv k c → (e : Event) → Lawful g (moment b k c e)) (v : ℕ) (small : v < nobody) where
+  -- what was handed to v stood before or was asked for
+  pub bounded : (es : List Event) (k : ℕ) (c : Core) → Inv k c
+      → times (handed g v) (moments b k c es) ≤ entries_of v (entries c.queue) + times (asks v) (moments b k c es)
+  bounded es k c i = omega (arith, balance g b Inv keeps law v small es k c i)
 
-module _ (g : Config) (d : Given g) (v : ℕ) (low : v < g.count) where
+  module _ (stands : (k : ℕ) (c : Core) → Inv k c → (e : Event) → (vm_at (b c e).core v).standing ≡ standing_after v (moment b k c e) (vm_at c v).standing) where
+    pub adds : (es : List Event) (k : ℕ) (c : Core) → Inv k c → EachStanding v (λ t m. ticking m ≡ true → t ≡ 1) (vm_at c v).standing (moments b k c es)
+        → times (ran_in v) (moments b k c es) ≡ times (naming g v) (moments b k c es) + times (handed g v) (moments b k c es)
+    unfolding moments
+    adds [] k c i r = omega (arith, times_nil (handed g v), times_nil (naming g v), times_nil (ran_in v))
+    adds (e ∷ es) k c i r =
+        let m = moment b k c e in
+        let ms = moments b (ticks_after m) (b c e).core es in
+        let h = adds es (ticks_after m) (b c e).core (keeps k c i e) (rw (stands k c i e) r.1) in
+        let n = exact_law g v small m (law k c i e) (λ t. eq-eqb (vm_at c v).standing 1 (r.0 t)) in
+        omega (arith, h, n, times_cons (ran_in v) m ms, times_cons (naming g v) m ms, times_cons (handed g v) m ms)
+
+-- ---- ours
+
+module _ (g : Config) (d : Given g) (v : ℕ) (low : v < g.count) (es fs : List Event) where
   small : v < nobody
   small = omega (arith, vm_small g d v low)
 
-  -- who is ready by the history
-  v_ready : (k : ℕ) (c : Core) (s : Scene) → Reached g k c → SceneOf g s c → ready_in g s v ≡ ready_at c v
-  v_ready k c s p t = ap (λ (r : ℕ → Bool). r v) (ready_told g k c s p t)
+  named : EachStanding v (λ t m. naming g v m ≡ true → t ≡ 1 → runs v m ≡ true) (vm_at (state_of step_of g es) v).standing (stretch step_of g es fs)
+  named =
+      each-told step_of (Reached g) (step-at g d) ℕ (λ c. (vm_at c v).standing) (standing_after v) (λ k c p e. step-standing g d k c p v low e) _
+      (λ k c p e h t. named-runs g v small (moment step_of k c e) (lawful g d k c p e) h (eq-eqb (vm_at c v).standing 1 t)) fs (ticks_of step_of g es) (state_of step_of g es) (ours_at g d es)
 
-  adds : (es : List Event) (k : ℕ) (c : Core) (s : Scene) → Reached g k c → SceneOf g s c
-      → times (ran_in v) (moments step_of k c es) ≡ times_told (scene_after g) (due g v) s (moments step_of k c es) + times (handed g v) (moments step_of k c es)
-  unfolding moments
-  adds [] k c s p t = omega (arith, times_nil (handed g v), told-nil (scene_after g) (due g v) s, times_nil (ran_in v))
-  adds (e ∷ es) k c s p t =
-      let m = moment step_of k c e in
-      let ms = moments step_of (ticks_after m) (step_of c e).core es in
-      let h = adds es (ticks_after m) (step_of c e).core (scene_after g m s) (step-at g d k c p e) (step-scene g d k c p s t e) in
-      let n : num (ran_in v m) ≡ num (due g v s m) + num (handed g v m) = rw (v_ready k c s p t) (exact_law g v small m (lawful g d k c p e)) in
-      omega (arith, h, n, times_cons (ran_in v) m ms, told-cons (scene_after g) (due g v) s m ms, times_cons (handed g v) m ms)
-
-  -- the entry that a tick took which was handed to v
-  took_entry : (k : ℕ) (c : Core) (s : Scene) → Reached g k c → SceneOf g s c → (e : Event) → spare g (moment step_of k c e) ≡ true → runs v (moment step_of k c e) ≡ true
-      → Left (ready_in g s) v s.queue (scene_after g (moment step_of k c e) s).queue
-  unfolding scene_after
-  took_entry k c s p t e h r =
-      let m = moment step_of k c e in
-      let first : first_of (ready_in g s) s.queue ≡ v = rw (ready_told g k c s p t, t.queue) (handed-first g v small m (lawful g d k c p e) h r) in
-      rw (spare_takes g m h) (first_left (ready_in g s) v s.queue small first)
-
-  module _ (es fs : List Event) where
-    named : EachTold (scene_after g) (λ s m. due g v s m ≡ true → runs v m ≡ true) (scene_in g (history step_of g es)) (stretch step_of g es fs)
-    named =
-        each-of-told step_of (Reached g) (step-at g d) Scene (SceneOf g) (scene_after g) (λ k c p s t e. step-scene g d k c p s t e) _
-        (λ k c p s t e h. (let m = moment step_of k c e in
-        named-runs g v small m (lawful g d k c p e) (both_left (naming g v m) _ h) (sym (v_ready k c s p t) ∙ both_right (naming g v m) _ h)))
-        fs (ticks_of step_of g es) (state_of step_of g es) _ (ours_at g d es) (ours-scene g d es)
-
-    handed_on : EachTold (scene_after g) (λ s m. ticking m ≡ true → runs v m ≡ true → naming g v m ≡ false → (spare g m ≡ true) × Left (ready_in g s) v s.queue (scene_after g m s).queue) (scene_in g (history step_of g es)) (stretch step_of g es fs)
-    handed_on =
-        each-of-told step_of (Reached g) (step-at g d) Scene (SceneOf g) (scene_after g) (λ k c p s t e. step-scene g d k c p s t e) _
-        (λ k c p s t e i r n. (let m = moment step_of k c e in let h = else-spare g v small m (lawful g d k c p e) i r n in (h, took_entry k c s p t e h r)))
-        fs (ticks_of step_of g es) (state_of step_of g es) _ (ours_at g d es) (ours-scene g d es)
-
-    -- what was handed to v stood before or was asked for
-    bounded : times (handed g v) (stretch step_of g es fs) ≤ entries_of v (entries (state_of step_of g es).queue) + times (asks v) (stretch step_of g es fs)
-    bounded = omega (arith, balance g step_of (Reached g) (step-at g d) (lawful g d) v small fs (ticks_of step_of g es) (state_of step_of g es) (ours_at g d es))
+  handed_on : EachQueued g (λ q m. ticking m ≡ true → runs v m ≡ true → naming g v m ≡ false → (spare g m ≡ true) × (front_of q ≡ v)) (entries (state_of step_of g es).queue) (stretch step_of g es fs)
+  handed_on =
+      each-told step_of (Reached g) (step-at g d) (List ℕ) (λ c. entries c.queue) (queue_after g) (λ k c p e. step-queue g d k c p e) _
+      (λ k c p e t r n. (let m = moment step_of k c e in let l = lawful g d k c p e in let s = else-spare g v small m l t r n in (s, handed-front g v small m l s r)))
+      fs (ticks_of step_of g es) (state_of step_of g es) (ours_at g d es)
 
 -- D6, D7, D10
 pub ours_slices : Slices step_of
 ours_slices g d v low es fs =
+    let t = ours-standing g d es v low in
+    let q = ours-queue g d es in
+    let p = ours_at g d es in
+    let k = ticks_of step_of g es in
+    let c = state_of step_of g es in
+    let few = small g d v low es fs in
     record {
-      runs_named = named g d v low es fs;
-      else-handed = handed_on g d v low es fs;
-      exactly = adds g d v low fs (ticks_of step_of g es) (state_of step_of g es) (scene_in g (history step_of g es)) (ours_at g d es) (ours-scene g d es);
-      at_most = rw (ours-queue g d es) at (bounded g d v low es fs);
+      runs_named = rw t at (named g d v low es fs);
+      else-handed = rw q at (handed_on g d v low es fs);
+      exactly = λ r. adds g step_of (Reached g) (step-at g d) (lawful g d) v few (λ k c p e. step-standing g d k c p v low e) fs k c p (rw t r);
+      at_most = rw q at (bounded g step_of (Reached g) (step-at g d) (lawful g d) v few fs k c p);
     }

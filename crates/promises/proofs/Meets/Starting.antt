@@ -23,7 +23,7 @@ use Rattle.rig_core.specs.declared.Stepped.{Stepped}
 use Rattle.core_laws.proofs.Always.{always_sound}
 use Rattle.core_laws.proofs.View.{row_restart, step_case}
 use Rattle.core_laws.specs.Run.{run}
-use Rattle.event.specs.declared.Event.TheVariants.{Call, Copy, Extra, Fault, Pause, Restart, Resume, Shutdown, Start, Stop, Tick, Write}
+use Rattle.event.specs.declared.Event.TheVariants.{Call, Copy, Extra, Fault, Restart, Shutdown, Start, Stop, Tick, Write}
 use Rattle.event.specs.declared.Event.{Event}
 use Rattle.guest.specs.Record.{fresh, started_at}
 use Rattle.history.proofs.Steps.{Reached, ours_at}
@@ -90,5 +90,3 @@ ours_starts g d es (Call i n at) v l h = no_begin (went (next step_of g es (Call
 ours_starts g d es (Write o x) v l h = no_begin (went (next step_of g es (Write o x))) h
 ours_starts g d es (Fault i x) v l h = no_begin (went (next step_of g es (Fault i x))) h
 ours_starts g d es (Copy p w) v l h = no_begin (went (next step_of g es (Copy p w))) h
-ours_starts g d es (Pause w) v l h = no_begin (went (next step_of g es (Pause w))) h
-ours_starts g d es (Resume w) v l h = no_begin (went (next step_of g es (Resume w))) h

@@ -4,8 +4,8 @@ use borrow.Author.Tests.{eqb-true, le-leb, lt-leb, ne_eqb}
 use lib.Dec.{eqb}
 use lib.ListN.{get_or, get_or-replicate, length, set}
 use mathlib.Core.Bool.{Bool, false, true}
-use mathlib.Core.List.{List}
-use mathlib.Core.Path.{ap, refl, sym, ◌∙◌, ◌≡◌}
+use mathlib.Core.List.{List, []}
+use mathlib.Core.Path.{ap, refl, ◌∙◌, ◌≡◌}
 use native.Mathlib.Omega.{arith}
 use Rattle.basis.proofs.Laws.{eqb_swap}
 use Rattle.basis.specs.Choice.{both, pick}
@@ -17,28 +17,26 @@ use Rattle.rig_core.specs.Changes.{changed_by}
 use Rattle.rig_core.specs.Events.{done, failure_of, start_core, step_of, tick_clock, tick_owner, tick_turn}
 use Rattle.rig_core.specs.Refusals.{refused, row_of}
 use Rattle.rig_core.specs.Sound.{sound}
-use Rattle.rig_core.specs.State.{fresh_core, full, ready_at, vm_at}
+use Rattle.rig_core.specs.State.{fresh_core, full, vm_at}
 use Rattle.rig_core.specs.declared.Core.{Core}
 use Rattle.rig_core.specs.declared.Stepped.{Stepped}
 use Rattle.core_laws.proofs.Facts.{running-below, sound_is}
 use Rattle.core_laws.proofs.Refused.{done_number}
-use Rattle.core_laws.proofs.View.{call-case, copy_case, row_call, row_copy, row_fault, row_pause, row_restart, row_resume, row_stop, step_case}
-use Rattle.event.specs.declared.Event.TheVariants.{Call, Copy, Extra, Fault, Pause, Restart, Resume, Shutdown, Start, Stop, Tick, Write}
+use Rattle.core_laws.proofs.View.{call-case, copy_case, row_call, row_copy, row_fault, row_restart, row_stop, step_case}
+use Rattle.event.specs.declared.Event.TheVariants.{Call, Copy, Extra, Fault, Restart, Shutdown, Start, Stop, Tick, Write}
 use Rattle.event.specs.declared.Event.{Event}
 use Rattle.guest.proofs.Facts.{deliver_standing, pend_standing, write_standing}
 use Rattle.guest.specs.Deliver.{back_from}
 use Rattle.guest.specs.Record.{fresh, pend, saved_at}
 use Rattle.guest.specs.declared.Vm.{Vm}
 use Rattle.history.proofs.Lawful.{lawful}
-use Rattle.history.proofs.More.{of-told, part_told}
-use Rattle.history.proofs.Scenes.{SceneOf, ready_told, scene_stands}
+use Rattle.history.proofs.More.{part-told}
 use Rattle.history.proofs.Steps.{Reached, at_fresh, ours_at, step-at, vm_small}
 use Rattle.history.specs.History.{history, moment, moment_of, state_of}
-use Rattle.history.specs.Queueing.{affected, effect}
-use Rattle.history.specs.Telling.{Scene, first_scene, queue_in, ready_in, scene_after, scene_in, standing_after, standing_by, standing_by_call, standing_in, started_after, started_in}
+use Rattle.history.specs.Telling.{queue_after, queue_in, standing_after, standing_by, standing_by_call, standing_in, started_after, started_in}
 use Rattle.promises.proofs.Meets.Starting.{count_few, start-ready}
 use Rattle.promises.specs.Tracing.{Traced}
-use Rattle.queue.specs.Entries.{entries, first_of}
+use Rattle.queue.specs.Entries.{entries, front_of}
 use Rattle.table.proofs.Moves.{next_started}
 use Rattle.vms.proofs.Records.{store_at, store_keeps, turn-standing}
 
@@ -84,7 +82,7 @@ module _ (g : Config) (d : Given g) (k : ℕ) (c : Core) (p : Reached g k c) whe
     done_standing : v < g.count → (e : Event) → sound c ≡ true → row_of c e ≡ 0 → (vm_at (done c e).core v).standing ≡ standing_by v c.running (done c e).answer e (vm_at c v).standing
     unfolding done tick_turn
     done_standing l Start s r = ap (λ (w : Vm). w.standing) (start-ready g d k c p v l)
-    done_standing l (Tick at) s r = turn-standing c.running at c.config.count (tick_owner c) (first_of (ready_at c) (entries c.queue)) (tick_clock c).left c.config.handlers c.vms v
+    done_standing l (Tick at) s r = turn-standing c.running at c.config.count (tick_owner c) (front_of (entries c.queue)) (tick_clock c).left c.config.handlers c.vms v
     done_standing l (Stop w) s r = put_standing (λ t. 2) w _ (row_stop c w r).1 refl
     done_standing l (Shutdown w) s r = store_keeps (λ x. x.standing) c.vms w (pend 11 (vm_at c w)) (pend_standing 11 (vm_at c w)) v
     done_standing l (Restart w) s r = put_standing (λ t. 1) w _ (row_restart c w r).1 refl
@@ -102,8 +100,6 @@ module _ (g : Config) (d : Given g) (k : ℕ) (c : Core) (p : Reached g k c) whe
 
         P : Change → Type 0
         P x = (vm_at (changed_by c x).core v).standing ≡ pick (both (eqb x.notice.kind 3) (eqb c.running v)) 4 (vm_at c v).standing
-    done_standing l (Pause w) s r = put_standing (λ t. 5) w _ (row_pause c w r).1 refl
-    done_standing l (Resume w) s r = put_standing (λ t. 1) w _ (row_resume c w r).1 refl
 
     pub step-standing : v < g.count → (e : Event) → (vm_at (step_of c e).core v).standing ≡ standing_after v (moment step_of k c e) (vm_at c v).standing
     unfolding standing_after refused
@@ -112,16 +108,9 @@ module _ (g : Config) (d : Given g) (k : ℕ) (c : Core) (p : Reached g k c) whe
         (λ n q h. rw (ne_eqb n 0 h))
         (λ s r. rw (done_number c e) (done_standing l e s r))
 
-  -- ---- how all stand, and the queue
-
-  pub step-scene : (s : Scene) → SceneOf g s c → (e : Event) → SceneOf g (scene_after g (moment step_of k c e) s) (step_of c e).core
-  unfolding scene_after
-  step-scene s t e =
-      record {
-        standing = λ v l. ap (standing_after v (moment step_of k c e)) (t.standing v l) ∙ sym (step-standing v l e);
-        queue = ap (affected (ready_in g s) (effect g (moment step_of k c e))) t.queue
-            ∙ ap (λ (r : ℕ → Bool). affected r (effect g (moment step_of k c e)) (entries c.queue)) (ready_told g k c s p t) ∙ sym (lawful g d k c p e).queue;
-      }
+  pub step-queue : (e : Event) → entries (step_of c e).core.queue ≡ queue_after g (moment step_of k c e) (entries c.queue)
+  unfolding queue_after
+  step-queue e = (lawful g d k c p e).queue
 
 -- ---- started
 
@@ -141,28 +130,23 @@ step_started k c e =
     by_kind (Write o x) = refl
     by_kind (Fault i x) = refl
     by_kind (Copy q w) = refl
-    by_kind (Pause w) = refl
-    by_kind (Resume w) = refl
 
 -- ---- ours
 
 module _ (g : Config) (d : Given g) (es : List Event) where
-  pub ours-scene : SceneOf g (scene_in g (history step_of g es)) (state_of step_of g es)
-  ours-scene =
-      of-told step_of (Reached g) (step-at g d) Scene (SceneOf g) (scene_after g) (λ k c p s t e. step-scene g d k c p s t e) es 0 (fresh_core g) first_scene (at_fresh g d)
-      (record { standing = λ v l. ap (λ (w : Vm). w.standing) (sym (get_or-replicate 8 v fresh fresh (vm_small g d v l))); queue = refl })
-
-  ours_standing : (v : ℕ) → v < g.count → (vm_at (state_of step_of g es) v).standing ≡ standing_in v (history step_of g es)
-  ours_standing v l = sym (ours-scene.standing v l) ∙ scene_stands g v (history step_of g es)
+  pub ours-standing : (v : ℕ) → v < g.count → (vm_at (state_of step_of g es) v).standing ≡ standing_in v (history step_of g es)
+  ours-standing v l =
+      part-told step_of (Reached g) (step-at g d) ℕ (λ c. (vm_at c v).standing) (standing_after v) (λ k c p e. step-standing g d k c p v l e) es 0 (fresh_core g) 0 (at_fresh g d)
+      (ap (λ (w : Vm). w.standing) (get_or-replicate 8 v fresh fresh (vm_small g d v l)))
 
   ours_started : (state_of step_of g es).clock.started ≡ started_in (history step_of g es)
-  ours_started = part_told step_of (Reached g) (step-at g d) ℕ (λ c. c.clock.started) started_after (λ k c p e. step_started k c e) es 0 (fresh_core g) 0 (at_fresh g d) refl
+  ours_started = part-told step_of (Reached g) (step-at g d) ℕ (λ c. c.clock.started) started_after (λ k c p e. step_started k c e) es 0 (fresh_core g) 0 (at_fresh g d) refl
 
   pub ours-queue : entries (state_of step_of g es).queue ≡ queue_in g (history step_of g es)
-  ours-queue = sym ours-scene.queue
+  ours-queue = part-told step_of (Reached g) (step-at g d) (List ℕ) (λ c. entries c.queue) (queue_after g) (λ k c p e. step-queue g d k c p e) es 0 (fresh_core g) [] (at_fresh g d) refl
 
--- T1, T3, T5, D2, D14, D18, D20, D23, D28 to D30, D38, D41
+-- T1, T3, T5, D2, D14, D18, D20, D23, D28 to D30
 pub ours_traced : Traced step_of
 ours_traced g d es =
     let p = (ours_at g d es).shaped in
-    record { standing = ours_standing g d es; started = ours_started g d es; queue = ours-queue g d es; records = p.records; places = p.places }
+    record { standing = ours-standing g d es; started = ours_started g d es; queue = ours-queue g d es; records = p.records; places = p.places }

@@ -14,7 +14,7 @@ use Rattle.config.specs.declared.Config.{Config}
 use Rattle.rig_core.specs.State.{vm_at}
 use Rattle.rig_core.specs.declared.Core.{Core}
 use Rattle.rig_core.specs.declared.Stepped.{Stepped}
-use Rattle.event.specs.declared.Event.TheVariants.{Call, Copy, Extra, Fault, Pause, Restart, Resume, Shutdown, Start, Stop, Tick, Write}
+use Rattle.event.specs.declared.Event.TheVariants.{Call, Copy, Extra, Fault, Restart, Shutdown, Start, Stop, Tick, Write}
 use Rattle.event.specs.declared.Event.{Event}
 use Rattle.history.specs.History.{Moment, moment_of}
 use Rattle.history.specs.Moments.{begins}
@@ -22,7 +22,7 @@ use Rattle.promises.proofs.Due.{due_either}
 use Rattle.promises.proofs.Fields.{each_field}
 use Rattle.promises.proofs.Only.Fits.{Alike, SameField, Two, age-told, ran-told, same-clock, told-running, unmoved, unnamed}
 use Rattle.promises.specs.Delivering.{Delivered, Highest, NoneDue, Offer, call_delivers, inject_offer, return_offer, sync_offer, tick_offer}
-use Rattle.promises.specs.Framing.{Enabled, Field, Left, OnTick, Pending, Previous, Reason, Restore, ResumeAt, Running, Since, is_field, of_call, of_delivery, of_tick, offset_of}
+use Rattle.promises.specs.Framing.{Enabled, Field, Left, OnTick, Pending, Previous, Reason, Restore, Resume, Running, Since, is_field, of_call, of_delivery, of_tick, offset_of}
 use Rattle.table.specs.declared.Clock.{Clock}
 use Rattle.window.specs.declared.Pieces.{Pieces}
 use Rattle.window.specs.declared.Window.{Window}
@@ -51,7 +51,7 @@ module _ (g : Config) (o : Offer) (m n : Moment) (p : Delivered g o m) (q : Deli
   Same = SameField o.vm m.after n.after
 
   module _ (still : Same Since × Same Left × Same Restore × Same OnTick × Same Running)
-      (quiet : m.answer.delivered ≡ 255 → n.answer.delivered ≡ 255 → Same ResumeAt × Same Reason × Same Previous) where
+      (quiet : m.answer.delivered ≡ 255 → n.answer.delivered ≡ 255 → Same Resume × Same Reason × Same Previous) where
     alike_quiet : NoneDue o → Alike o.vm m.after n.after
     alike_quiet z =
         let a = p.quiet z in
@@ -85,7 +85,7 @@ module _ {g : Config} {ms : List Moment} {k : ℕ} {c : Core} {at : ℕ} {s t : 
       alike-delivered g (tick_offer c at v) (moment_of k c (Tick at) s) (moment_of k c (Tick at) t)
       ((w.one.delivers.accepted w.went-one).to-runner v l a) ((w.two.delivers.accepted w.went-two).to-runner v l b)
       (i.age ∙ age-told w v ∙ sym j.age, i.left ∙ ap (λ (z : Clock). z.left) (same-clock w) ∙ sym j.left, kept Restore refl refl, kept OnTick refl refl, i.ran ∙ ran-told w v ∙ sym j.ran)
-      (λ d e. (quiet d e ResumeAt refl, quiet d e Reason refl, quiet d e Previous refl))
+      (λ d e. (quiet d e Resume refl, quiet d e Reason refl, quiet d e Previous refl))
     where
       kept : (f : Field) → of_tick f ≡ false → of_delivery f ≡ false → SameField v s.core t.core f
       kept f a b = unnamed w v l f (rw (a, b) (both_no (eqb s.answer.running v))) (rw (a, b) (both_no (eqb t.answer.running v)))
@@ -136,7 +136,7 @@ module _ {g : Config} {ms : List Moment} {k : ℕ} {c : Core} {i n at : ℕ} {s 
         subst (λ (v : ℕ). Alike v s.core t.core) e
         (alike-delivered g o (moment_of k c (Call i n at) s) (moment_of k c (Call i n at) t) a b
         (still Since refl refl refl, still Left refl refl refl, still Restore refl refl refl, still OnTick refl refl refl, still Running refl refl refl)
-        (λ d x. (quiet d x ResumeAt refl refl, quiet d x Reason refl refl, quiet d x Previous refl refl)))
+        (λ d x. (quiet d x Resume refl refl, quiet d x Reason refl refl, quiet d x Previous refl refl)))
       where
         at_offer : (f : Field) → SameField c.running s.core t.core f → SameField o.vm s.core t.core f
         at_offer f h = subst (λ (v : ℕ). SameField v s.core t.core f) (sym e) h
@@ -177,7 +177,7 @@ module _ {g : Config} {ms : List Moment} {k : ℕ} {c : Core} {x : ℕ} {s t : S
   shut_self l =
       record {
         fields = each_field (SameField x s.core t.core) (rest Since refl) (rest Left refl) (rest Enabled refl)
-            ((w.one.delivers.accepted w.went-one).waits ∙ sym (w.two.delivers.accepted w.went-two).waits) (rest ResumeAt refl) (rest Reason refl) (rest Previous refl) (rest Restore refl) (rest OnTick refl) (rest Running refl);
+            ((w.one.delivers.accepted w.went-one).waits ∙ sym (w.two.delivers.accepted w.went-two).waits) (rest Resume refl) (rest Reason refl) (rest Previous refl) (rest Restore refl) (rest OnTick refl) (rest Running refl);
         address = unmoved w x l refl refl;
       }
     where
@@ -237,5 +237,3 @@ alike (Call i n at) w v l h = call_alike w v l
 alike (Write o d) w v l h = write_alike w v l
 alike (Fault i d) w v l h = record { fields = λ f. unnamed w v l f refl refl; address = unmoved w v l refl refl }
 alike (Copy p x) w v l h = copy_alike w v l
-alike (Pause x) w v l h = record { fields = λ f. unnamed w v l f refl refl; address = unmoved w v l refl refl }
-alike (Resume x) w v l h = record { fields = λ f. unnamed w v l f refl refl; address = unmoved w v l refl refl }

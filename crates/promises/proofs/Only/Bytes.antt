@@ -2,7 +2,6 @@
 use Prim.Native.Nat.{ℕ}
 use mathlib.Core.Bool.{Bool, false, true}
 use mathlib.Core.List.{List, [], ◌++◌, ◌∷◌}
-use mathlib.Core.Logic.{⊎_elim}
 use mathlib.Core.Path.{ap, refl, subst, sym, ◌∙◌, ◌≡◌}
 use Rattle.basis.proofs.Laws.{both_left, both_right, false_true}
 use Rattle.config.specs.Ranges.{Given}
@@ -11,9 +10,8 @@ use Rattle.rig_core.specs.Events.{step_of}
 use Rattle.rig_core.specs.Memory.{memory_after}
 use Rattle.rig_core.specs.State.{fresh_core}
 use Rattle.rig_core.specs.declared.Core.{Core}
-use Rattle.event.proofs.Asking.{copy_or_not}
 use Rattle.event.specs.Kinds.{is_copy}
-use Rattle.event.specs.declared.Event.TheVariants.{Copy}
+use Rattle.event.specs.declared.Event.TheVariants.{Call, Copy, Extra, Fault, Restart, Shutdown, Start, Stop, Tick, Write}
 use Rattle.event.specs.declared.Event.{Event}
 use Rattle.history.proofs.More.{state_more}
 use Rattle.history.specs.History.{Behaviour, Moment, next, state_after, state_of, went}
@@ -27,7 +25,16 @@ use Rattle.window.specs.declared.Window.{Window}
 
 -- a Copy is one with its numbers
 copy_is : (e : Event) → is_copy e ≡ true → (p : Pieces) × (w : Window) × (e ≡ Copy p w)
-copy_is e h = ⊎_elim (λ i. false_true (sym i ∙ h)) (λ x. x) (copy_or_not e)
+copy_is Start h = false_true h
+copy_is (Tick at) h = false_true h
+copy_is (Stop v) h = false_true h
+copy_is (Shutdown v) h = false_true h
+copy_is (Restart v) h = false_true h
+copy_is (Extra v) h = false_true h
+copy_is (Call s n at) h = false_true h
+copy_is (Write o x) h = false_true h
+copy_is (Fault k d) h = false_true h
+copy_is (Copy p w) h = (p, w, refl)
 
 -- C10, C11: whatever keeps the rules and the promise on the bytes does to them, at each event of a run, what ours does
 pub only_our_bytes : (b : Behaviour) (t : Copier) → Rules b → Copies t b → (g : Config) → Given g → (es : List Event) (e : Event) (bytes : List ℕ)

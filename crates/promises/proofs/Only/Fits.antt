@@ -2,7 +2,7 @@
 use Prim.Native.Nat.{suc, zero, ℕ, ◌%◌, ◌+◌, ◌<◌, ◌^◌}
 use borrow.Author.Tests.{eqb-true}
 use lib.Dec.{eqb}
-use mathlib.Core.Bool.{Bool, false, true}
+use mathlib.Core.Bool.{Bool, false, not, true}
 use mathlib.Core.List.{List, [], ◌++◌, ◌∷◌}
 use mathlib.Core.Path.{ap, refl, subst, sym, ◌∙◌, ◌≡◌}
 use Rattle.basis.specs.Choice.{both, pick}
@@ -16,13 +16,13 @@ use Rattle.rig_core.specs.declared.Core.{Core}
 use Rattle.rig_core.specs.declared.Stepped.{Stepped}
 use Rattle.core_laws.proofs.Facts.{len-most, queue-padded, sound_is, ticked-not}
 use Rattle.event.specs.Kinds.{is_tick}
-use Rattle.event.specs.declared.Event.TheVariants.{Call, Copy, Extra, Fault, Pause, Restart, Resume, Shutdown, Start, Stop, Tick, Write}
+use Rattle.event.specs.declared.Event.TheVariants.{Call, Copy, Extra, Fault, Restart, Shutdown, Start, Stop, Tick, Write}
 use Rattle.event.specs.declared.Event.{Event}
 use Rattle.history.proofs.More.{count_more, moments_more, state_more, told_more}
 use Rattle.history.specs.History.{AtEachState, Behaviour, Moment, history, moment_of, next, state_of, ticking, ticks_after, ticks_of, told, went}
 use Rattle.history.specs.Moments.{begins, ran_in, tells_error}
 use Rattle.history.specs.Queueing.{Effect, Keep, Remove, affected, effect, effect_by, of_service, removed_from}
-use Rattle.history.specs.Telling.{Scene, first_scene, is_end, queue_in, ready_in, scene_after, scene_in, standing_after, standing_by, started_after}
+use Rattle.history.specs.Telling.{queue_after, queue_in, standing_after, standing_by, started_after}
 use Rattle.promises.proofs.Only.Parts.{clock_same, left_one, slot_one}
 use Rattle.promises.specs.Answering.{RemovesOf, TellsOf}
 use Rattle.promises.specs.Delivering.{DeliversOf}
@@ -94,8 +94,6 @@ standing_told v r a b (Call x n at) i h = refl
 standing_told v r a b (Write o x) i h = refl
 standing_told v r a b (Fault x d) i h = refl
 standing_told v r a b (Copy p w) i h = ap (λ (x : Bool). pick (both x (eqb r v)) 4 i) h
-standing_told v r a b (Pause x) i h = refl
-standing_told v r a b (Resume x) i h = refl
 
 pub record Two (g : Config) (ms : List Moment) (k : ℕ) (c : Core) (e : Event) (s t : Stepped) : Type 0 where
   pub one : Fits g ms k c e s
@@ -134,7 +132,7 @@ module _ {g : Config} {ms : List Moment} {k : ℕ} {c : Core} {e : Event} {s t :
       go true z = w.one.runs.tick (rw (w.went-one, z)) ∙ sym (w.two.runs.tick (rw (w.went-two, z)))
       go false z =
           w.one.runs.other w.went-one z
-          ∙ ap (λ (i : ℕ). pick (is_end i) 255 c.running) (stands_same c.running c.running 1)
+          ∙ ap (λ (i : ℕ). pick (not (eqb i 1)) 255 c.running) (stands_same c.running c.running 1)
           ∙ sym (w.two.runs.other w.went-two z)
 
   pub told-running : s.answer.running ≡ t.answer.running
@@ -164,16 +162,10 @@ module _ {g : Config} {ms : List Moment} {k : ℕ} {c : Core} {e : Event} {s t :
       go (Write o v) = refl
       go (Fault i d) = refl
       go (Copy p x) = ap (λ (b : Bool). pick b (Remove c.running) Keep) same_error
-      go (Pause v) = refl
-      go (Resume v) = refl
-
-  queue_more : (x : Moment) → queue_in g (ms ++ (x ∷ [])) ≡ affected (ready_in g (scene_in g ms)) (effect g x) (queue_in g ms)
-  unfolding scene_after
-  queue_more x = ap (λ (z : Scene). z.queue) (told_more (scene_after g) first_scene ms x)
 
   same_entries : entries s.core.queue ≡ entries t.core.queue
-  same_entries =
-      w.one.traced.queue ∙ queue_more m ∙ ap (λ (f : Effect). affected (ready_in g (scene_in g ms)) f (queue_in g ms)) same_effect ∙ sym (queue_more n) ∙ sym w.two.traced.queue
+  unfolding queue_after
+  same_entries = w.one.traced.queue ∙ told_same (queue_after g) [] (ap (λ (f : Effect). affected f (queue_in g ms)) same_effect) ∙ sym w.two.traced.queue
 
   -- a queue is its entries, with zeros behind them (W5), and its counts
   padded : (u : Stepped) → Fits g ms k c e u → u.core.queue ≡ holding (entries u.core.queue) u.core.queue.counts

@@ -13,7 +13,7 @@ use Rattle.rig_core.specs.State.{address_of, vm_at}
 use Rattle.rig_core.specs.declared.Core.{Core}
 use Rattle.rig_core.specs.declared.Stepped.{Stepped}
 use Rattle.core_laws.proofs.Facts.{past-fresh, running-who, sound_is}
-use Rattle.event.specs.declared.Event.TheVariants.{Call, Copy, Extra, Fault, Pause, Restart, Resume, Shutdown, Start, Stop, Tick, Write}
+use Rattle.event.specs.declared.Event.TheVariants.{Call, Copy, Extra, Fault, Restart, Shutdown, Start, Stop, Tick, Write}
 use Rattle.event.specs.declared.Event.{Event}
 use Rattle.guest.specs.Record.{fresh}
 use Rattle.history.specs.History.{Moment, moment_of}
@@ -61,8 +61,6 @@ module _ {g : Config} {ms : List Moment} {k : ℕ} {c : Core} where
   same_delivered (Write o x) w = w.one.delivers.accepted w.went-one ∙ sym (w.two.delivers.accepted w.went-two)
   same_delivered (Fault i x) w = w.one.delivers.accepted w.went-one ∙ sym (w.two.delivers.accepted w.went-two)
   same_delivered (Copy p x) w = (w.one.delivers.accepted w.went-one).never ∙ sym (w.two.delivers.accepted w.went-two).never
-  same_delivered (Pause v) w = w.one.delivers.accepted w.went-one ∙ sym (w.two.delivers.accepted w.went-two)
-  same_delivered (Resume v) w = w.one.delivers.accepted w.went-one ∙ sym (w.two.delivers.accepted w.went-two)
 
 -- ---- one event
 

@@ -8,7 +8,7 @@ use Rattle.rig_core.specs.Events.{step_of}
 use Rattle.event.specs.declared.Event.{Event}
 use Rattle.history.specs.History.{Behaviour, Moment, after, answers_of, history, next, state_of, stretch}
 use Rattle.history.specs.Moments.{asks}
-use Rattle.history.specs.Telling.{queue_in, scene_after, scene_in}
+use Rattle.history.specs.Telling.{queue_in}
 use Rattle.promises.proofs.Meets.Accounts.{ours_accounts}
 use Rattle.promises.proofs.Meets.All.{ours_rules}
 use Rattle.promises.proofs.Meets.Slices.{ours_slices}
@@ -37,10 +37,9 @@ module _ (b : Behaviour) (r : Rules b) where
 
   rules_waiting : Waiting b
   rules_waiting g d v l es e fs a =
-      subst (λ (ms : List Moment). WaitingOf g v (queue_in g ms) (scene_after g (next b g es e) (scene_in g ms)) (after b (next b g es e) fs)) (sym (same-run b step_of r ours_rules g d es).moments)
-      (subst (λ (m : Moment). WaitingOf g v (queue_in g (history step_of g es)) (scene_after g m (scene_in g (history step_of g es))) (after b (next b g es e) fs)) (sym (same-moment b step_of r ours_rules g d es e))
-      (subst (λ (ns : List Moment). WaitingOf g v (queue_in g (history step_of g es)) (scene_after g (next step_of g es e) (scene_in g (history step_of g es))) ns) (sym (same-following b step_of r ours_rules g d es e fs))
-      (ours_waiting g d v l es e fs (subst (λ (m : Moment). asks v m ≡ true) (same-moment b step_of r ours_rules g d es e) a))))
+      subst (λ (ms : List Moment). WaitingOf g v (queue_in g ms) (after b (next b g es e) fs)) (sym (same-run b step_of r ours_rules g d es).moments)
+      (subst (λ (ns : List Moment). WaitingOf g v (queue_in g (history step_of g es)) ns) (sym (same-following b step_of r ours_rules g d es e fs))
+      (ours_waiting g d v l es e fs (subst (λ (m : Moment). asks v m ≡ true) (same-moment b step_of r ours_rules g d es e) a)))
 
   rules_accounts : Accounts b
   rules_accounts g d v l es = subst (λ (ms : List Moment). AccountOf g v ms) (sym (same-run b step_of r ours_rules g d es).moments) (ours_accounts g d v l es)

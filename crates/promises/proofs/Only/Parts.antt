@@ -13,7 +13,7 @@ use Rattle.rig_core.specs.declared.Core.{Core}
 use Rattle.rig_core.specs.declared.Stepped.{Stepped}
 use Rattle.guest.specs.declared.Status.{Status}
 use Rattle.guest.specs.declared.Vm.{Vm}
-use Rattle.promises.specs.Framing.{Enabled, Field, Left, OnTick, Pending, Previous, Reason, Restore, ResumeAt, Running, Since, value_of}
+use Rattle.promises.specs.Framing.{Enabled, Field, Left, OnTick, Pending, Previous, Reason, Restore, Resume, Running, Since, value_of}
 use Rattle.queue.specs.declared.Queue.{Queue}
 use Rattle.table.proofs.Place.{to-grows, to-more}
 use Rattle.table.specs.Place.{Placed, table_to}
@@ -30,7 +30,7 @@ status_parts s t e0 e1 e2 e3 e4 e5 e6 e7 e8 e9 = go s.since t.since s.left t.lef
 
 -- two status blocks with the same ten fields
 pub status_same : (s t : Status) → ((f : Field) → value_of f s ≡ value_of f t) → s ≡ t
-status_same s t h = status_parts s t (h Since) (h Left) (h Enabled) (h Pending) (h ResumeAt) (h Reason) (h Previous) (h Restore) (h OnTick) (h Running)
+status_same s t h = status_parts s t (h Since) (h Left) (h Enabled) (h Pending) (h Resume) (h Reason) (h Previous) (h Restore) (h OnTick) (h Running)
 
 pub vm_same : (s t : Vm) → s.standing ≡ t.standing → s.address ≡ t.address → s.status ≡ t.status → s.age ≡ t.age → s.ran ≡ t.ran → s ≡ t
 vm_same s t e0 e1 e2 e3 e4 = go s.standing t.standing s.address t.address s.status t.status s.age t.age s.ran t.ran e0 e1 e2 e3 e4

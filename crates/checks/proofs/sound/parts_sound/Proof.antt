@@ -29,11 +29,11 @@ clock-sound-requires c κs = search rules
 owner-at-requires : tie.Need-owner-at-requires
 owner-at-requires c κs = search rules
 
-slice-aggregate-is-alive : tie.Need-slice-aggregate-is-alive
-slice-aggregate-is-alive c = search rules
+slice-aggregate-is-ready : tie.Need-slice-aggregate-is-ready
+slice-aggregate-is-ready c = search rules
 
-is-alive-requires : tie.Need-is-alive-requires
-is-alive-requires c κs = search rules
+is-ready-requires : tie.Need-is-ready-requires
+is-ready-requires c κs = search rules
 
 runner-sound-requires : tie.Need-runner-sound-requires
 runner-sound-requires c κs = search rules
@@ -51,10 +51,10 @@ parts-legal-requires : tie.Need-parts-legal-requires
 parts-legal-requires c κs = search rules
 
 returns : tie.Need-returns
-returns c = parts-yes _ _ _ _ _ _ _ _ _ _ _ _ _ _ _ _ _ c.before.before.before.before.before.before.before.before.before.before.before.before.before.before.before.before.before.before.standings.ensures c.before.before.before.before.before.before.before.before.before.before.before.before.before.before.before.before.before.before.before.rest-fresh.ensures c.before.before.before.before.before.before.before.before.before.before.before.before.before.before.before.before.queue-sound.ensures c.before.before.before.before.before.before.before.before.before.before.before.before.before.before.start_sound.ensures c.before.before.before.before.before.before.before.before.before.before.before.before.duration-at.ensures c.before.before.before.before.before.before.before.before.before.before.before.clock-sound.ensures c.before.before.before.before.before.before.before.before.before.owner_at.ensures c.before.before.before.before.before.before.before.is-alive.ensures c.before.before.before.before.before.before.runner-sound.ensures c.before.before.before.before.numbers-known.ensures c.before.before.before.counted.ensures c.before.before.all.ensures _ c.before.if1.true c.parts-legal.ensures
+returns c = parts-yes _ _ _ _ _ _ _ _ _ _ _ _ _ _ _ _ _ c.before.before.before.before.before.before.before.before.before.before.before.before.before.before.before.before.before.before.standings.ensures c.before.before.before.before.before.before.before.before.before.before.before.before.before.before.before.before.before.before.before.rest-fresh.ensures c.before.before.before.before.before.before.before.before.before.before.before.before.before.before.before.before.queue-sound.ensures c.before.before.before.before.before.before.before.before.before.before.before.before.before.before.start_sound.ensures c.before.before.before.before.before.before.before.before.before.before.before.before.duration-at.ensures c.before.before.before.before.before.before.before.before.before.before.before.clock-sound.ensures c.before.before.before.before.before.before.before.before.before.owner_at.ensures c.before.before.before.before.before.before.before.is-ready.ensures c.before.before.before.before.before.before.runner-sound.ensures c.before.before.before.before.numbers-known.ensures c.before.before.before.counted.ensures c.before.before.all.ensures _ c.before.if1.true c.parts-legal.ensures
 
 returns-2 : tie.Need-returns-2
-returns-2 c = parts-no _ _ _ _ _ _ _ _ _ _ _ _ _ _ _ _ _ c.before.before.before.before.before.before.before.before.before.before.before.before.before.before.before.before.before.standings.ensures c.before.before.before.before.before.before.before.before.before.before.before.before.before.before.before.before.before.before.rest-fresh.ensures c.before.before.before.before.before.before.before.before.before.before.before.before.before.before.before.queue-sound.ensures c.before.before.before.before.before.before.before.before.before.before.before.before.before.start_sound.ensures c.before.before.before.before.before.before.before.before.before.before.before.duration-at.ensures c.before.before.before.before.before.before.before.before.before.before.clock-sound.ensures c.before.before.before.before.before.before.before.before.owner_at.ensures c.before.before.before.before.before.before.is-alive.ensures c.before.before.before.before.before.runner-sound.ensures c.before.before.before.numbers-known.ensures c.before.before.counted.ensures c.before.all.ensures _ c.if1.false refl
+returns-2 c = parts-no _ _ _ _ _ _ _ _ _ _ _ _ _ _ _ _ _ c.before.before.before.before.before.before.before.before.before.before.before.before.before.before.before.before.before.standings.ensures c.before.before.before.before.before.before.before.before.before.before.before.before.before.before.before.before.before.before.rest-fresh.ensures c.before.before.before.before.before.before.before.before.before.before.before.before.before.before.before.queue-sound.ensures c.before.before.before.before.before.before.before.before.before.before.before.before.before.start_sound.ensures c.before.before.before.before.before.before.before.before.before.before.before.duration-at.ensures c.before.before.before.before.before.before.before.before.before.before.clock-sound.ensures c.before.before.before.before.before.before.before.before.owner_at.ensures c.before.before.before.before.before.before.is-ready.ensures c.before.before.before.before.before.runner-sound.ensures c.before.before.before.numbers-known.ensures c.before.before.counted.ensures c.before.all.ensures _ c.if1.false refl
 
 pub parts-sound-spec : {M : Type 1} → statement M
 parts-sound-spec =
@@ -68,8 +68,8 @@ parts-sound-spec =
     duration-at-requires
     clock-sound-requires
     owner-at-requires
-    slice-aggregate-is-alive
-    is-alive-requires
+    slice-aggregate-is-ready
+    is-ready-requires
     runner-sound-requires
     numbers-known-requires
     counted-requires

@@ -1,24 +1,19 @@
--- At a spare tick the entry at the place that was found, at any other nothing.
+-- The oldest entry and the others, or nobody and the queue as it was.
 use Rattle.std.proofs.Common.{rules}
-use Rattle.guest.specs.Record.{ready_in}
-use Rattle.queue.proofs.Middle.{served-place}
 use Rattle.queue.proofs.Queue.served.Statement.{statement}
 use Rattle.queue.proofs.Queue.served.Tie as tie
 
-entry-count-requires : tie.Need-entry-count-requires
-entry-count-requires c κs = search rules
+front-requires : tie.Need-front-requires
+front-requires c κs = search rules
 
-place-requires : tie.Need-place-requires
-place-requires c κs = search rules
-
-taken-at-requires : tie.Need-taken-at-requires
-taken-at-requires c κs = search rules
+popped-requires : tie.Need-popped-requires
+popped-requires c κs = search rules
 
 returns : tie.Need-returns
-returns c = served-place (ready_in c.before.before.before.before.before.before.args.standings.now) _ _ _ _ _ (search rules) c.before.before.before.before.if1.true c.before.before.entry-count.ensures c.before.place.ensures c.taken_at.ensures
+returns c = rw (c.before.before.if1.true, c.popped.ensures, c.before.front.ensures)
 
 returns-2 : tie.Need-returns-2
 returns-2 c = rw c.if1.false
 
 pub served-spec : {M : Type 1} → statement M
-served-spec = tie.close (tie.spec entry-count-requires place-requires taken-at-requires returns returns-2)
+served-spec = tie.close (tie.spec front-requires popped-requires returns returns-2)

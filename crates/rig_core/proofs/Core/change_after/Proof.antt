@@ -34,11 +34,14 @@ array-copy-out-old c = search rules
 or-fresh-requires : tie.Need-or-fresh-requires
 or-fresh-requires c κs = search rules
 
+is-ready-requires : tie.Need-is-ready-requires
+is-ready-requires c κs = search rules
+
 row-of-requires : tie.Need-row-of-requires
 row-of-requires c κs = search rules
 
 slice-aggregate-word-at : tie.Need-slice-aggregate-word-at
-slice-aggregate-word-at c = sym (entered c.before.before.before.before.before.before.before.before.before.before.before.before)
+slice-aggregate-word-at c = sym (entered c.before.before.before.before.before.before.before.before.before.before.before.before.before)
 
 cast-word-at : tie.Need-overflow-cast-word-at
 cast-word-at c = search rules
@@ -47,7 +50,7 @@ word-at-requires : tie.Need-word-at-requires
 word-at-requires c κs = search rules
 
 slice-aggregate-word-at-2 : tie.Need-slice-aggregate-word-at-2
-slice-aggregate-word-at-2 c = sym (handled c.before.before.before.before.before.before.before.before.before.before.before.before.before.before)
+slice-aggregate-word-at-2 c = sym (handled c.before.before.before.before.before.before.before.before.before.before.before.before.before.before.before)
 
 cast-word-at-2 : tie.Need-overflow-cast-word-at-2
 cast-word-at-2 c = search rules
@@ -83,7 +86,7 @@ answer-requires : tie.Need-answer-requires
 answer-requires c κs = search rules
 
 returns : tie.Need-returns
-returns c = change-law _ _ _ _ _ _ _ _ _ _ _ _ (long c.before.before.before.before.before.before.before.before.before.before.before.before.before.before.before.before.before.before.before.before.before.before.before) c.before.before.before.before.before.before.before.before.before.before.before.before.before.before.before.before.before.before.made_again.ensures c.before.before.before.before.before.before.before.before.before.before.before.before.before.before.before.before.place_of.ensures c.before.before.before.before.before.before.before.before.before.before.before.before.before.before.or-fresh.ensures c.before.before.before.before.before.before.before.before.before.before.before.before.before.row_of_lem.ensures c.before.before.before.before.before.before.before.before.before.before.word_at.ensures c.before.before.before.before.before.before.before.before.word-at2.ensures c.before.before.before.before.before.before.before.change-unless.ensures c.before.before.before.before.before.or_kept.ensures c.before.if-vm.ensures c.answer.ensures
+returns c = change-law _ _ _ _ _ _ _ _ _ _ _ _ _ (long c.before.before.before.before.before.before.before.before.before.before.before.before.before.before.before.before.before.before.before.before.before.before.before.before) c.before.before.before.before.before.before.before.before.before.before.before.before.before.before.before.before.before.before.before.made_again.ensures c.before.before.before.before.before.before.before.before.before.before.before.before.before.before.before.before.before.place_of.ensures c.before.before.before.before.before.before.before.before.before.before.before.before.before.before.before.or-fresh.ensures c.before.before.before.before.before.before.before.before.before.before.before.before.before.before.is-ready.ensures c.before.before.before.before.before.before.before.before.before.before.before.before.before.row_of_lem.ensures c.before.before.before.before.before.before.before.before.before.before.word_at.ensures c.before.before.before.before.before.before.before.before.word-at2.ensures c.before.before.before.before.before.before.before.change-unless.ensures c.before.before.before.before.before.or_kept.ensures c.before.if-vm.ensures c.answer.ensures
 
 pub change-after-spec : {M : Type 1} → statement M
 change-after-spec =
@@ -95,6 +98,7 @@ change-after-spec =
     mul-old
     array-copy-out-old
     or-fresh-requires
+    is-ready-requires
     row-of-requires
     slice-aggregate-word-at
     cast-word-at

@@ -26,7 +26,7 @@ same_length : tie.Need-same-length
 same_length c = search rules
 
 returns-3 : tie.Need-returns-3
-returns-3 c = (c.before.before.before.before.before.before.before.before.before.before.copy-whole.ensures, copies-done _ _ _ _ _ (by_row _ _ _ c.before.before.before.before.before.before.before.before.before.before.copy-whole.ensures) _ _ _ c.before.before.before.before.before.before.before.before.if1.false c.before.before.before.before.before.before.if2.false c.before.before.before.before.before.extents.ensures c.before.before.copy_all.ensures)
+returns-3 c = (c.before.before.before.before.before.before.before.before.before.before.copy-whole.ensures, copies-done _ _ _ _ _ (by_row _ _ _ c.before.before.before.before.before.before.before.before.before.before.copy-whole.ensures) _ _ _ c.before.before.before.before.before.before.before.before.if1.false c.before.before.before.before.before.before.if2.false c.before.before.before.before.before.extents.ensures c.before.before.copy-all.ensures)
 
 pub copied-spec : {M : Type 1} → statement M
 copied-spec =

@@ -16,8 +16,8 @@ slice-aggregate-owner-at c = search rules
 owner-at-requires : tie.Need-owner-at-requires
 owner-at-requires c κs = search rules
 
-served-by-requires : tie.Need-served-by-requires
-served-by-requires c κs = search rules
+served-requires : tie.Need-served-requires
+served-requires c κs = search rules
 
 cast-turned : tie.Need-overflow-cast-turned
 cast-turned c = search rules
@@ -29,7 +29,7 @@ quiet-requires : tie.Need-quiet-requires
 quiet-requires c κs = search rules
 
 returns : tie.Need-returns
-returns c = rw c.quiet.ensures (tick_law _ _ _ _ _ _ c.before.before.before.before.before.before.before.before.before.before.next.ensures c.before.before.before.before.before.before.before.before.owner_at.ensures c.before.before.before.before.before.before.served_by.ensures c.before.before.before.turned.ensures)
+returns c = rw c.quiet.ensures (tick_law _ _ _ _ _ _ c.before.before.before.before.before.before.before.before.before.before.next.ensures c.before.before.before.before.before.before.before.before.owner_at.ensures c.before.before.before.before.before.before.before.served.ensures c.before.before.before.turned.ensures)
 
 pub tick-done-spec : {M : Type 1} → statement M
 tick-done-spec =
@@ -39,7 +39,7 @@ tick-done-spec =
     next-requires
     slice-aggregate-owner-at
     owner-at-requires
-    served-by-requires
+    served-requires
     cast-turned
     turned-requires
     quiet-requires
