@@ -1,5 +1,6 @@
 // The vocabulary that all definitions share, the laws about it, and the small functions that many crates need.
 #![tactic(auto)]
+
 pub mod numbers;
 pub mod places;
 pub mod tests;

@@ -1,5 +1,6 @@
 // The memory regions of a configuration: the struct, and the rules that they keep (H1 to H6).
 #![tactic(auto)]
+
 mod overlap;
 mod rules;
 

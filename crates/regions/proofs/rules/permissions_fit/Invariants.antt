@@ -1,0 +1,14 @@
+-- The permissions below `k` are tested.
+use Prim.Native.Nat.{◌-◌, ◌≤◌}
+use lib.Dec.{eqb}
+use lib.ListN.{get_or}
+use mathlib.Core.Path.{◌≡◌}
+use Rattle.basis.specs.Count.{every}
+use Rattle.regions.specs.Rules.{known}
+use Rattle.regions.proofs.rules.permissions_fit.Given as goal
+
+abbrev pub invariant-loop-k : goal.invariant-loop-k
+invariant-loop-k l = (l.k ≤ l.n) × (eqb l.bits 0 ≡ every (λ j. known (get_or l.permissions j 0)) l.k)
+
+abbrev pub decreases-loop-k : goal.decreases-loop-k
+decreases-loop-k l = l.n - l.k
