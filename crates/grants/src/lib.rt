@@ -1,5 +1,6 @@
 // Who may access what: the access query over regions (H8 to H11).
 #![tactic(auto)]
+
 mod walk;
 
 ghost use Rattle.std.specs.Prelude.{leb, ◌≡◌};
