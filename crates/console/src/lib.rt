@@ -1,28 +1,48 @@
 // Files, and runs printed to standard output.
 #![tactic(auto)]
 ghost use Rattle.io.specs.Counts.{IsPrefixLen};
+ghost use Rattle.std.specs.Prelude.{IfSome};
+
+use std::fs::File;
+use std::os::fd::AsRawFd;
 
 // The front of a file, as much as the buffer takes; nothing of one that does not open or cannot be read (N8).
-pub fn read_file(path: &[u8], buf: &mut [u8]) -> usize
+pub fn read_file(rt: &HostRuntime, path: &[u8], buf: &mut [u8]) -> usize
     ensures { IsPrefixLen result buf.new }
 {
-    let fd = os::open_read(path);
-    if fd < 0 {
-        return 0;
+    match read_opened(rt, path, buf) {
+        Some(n) => n,
+        None => 0,
     }
-    let n = io::read_full(fd, buf);
-    libc::close(fd);
-    n
+}
+
+// The same, and None of one that does not open: whether it is there is told apart (N13). A path that is no text names no file.
+pub fn read_opened(rt: &HostRuntime, path: &[u8], buf: &mut [u8]) -> Option<usize>
+    ensures { IfSome result (λ n. IsPrefixLen n buf.new) }
+{
+    match str::from_utf8(path) {
+        Ok(name) => read_named(rt, name, buf),
+        Err(_) => None,
+    }
+}
+
+fn read_named(rt: &HostRuntime, name: &str, buf: &mut [u8]) -> Option<usize>
+    ensures { IfSome result (λ n. IsPrefixLen n buf.new) }
+{
+    match File::open(rt, name) {
+        Ok(file) => Some(io::read_full(file.as_raw_fd(), buf)),
+        Err(_) => None,
+    }
 }
 
 // Prints the run of the log `events.bin` on the image `config.bin`, both in the current folder (N1). At most 4,096 bytes of the
 // image and 65,536 of the log are read, which is more than decides: 1,039 of any image, 60,001 of any log.
-pub fn run_files(states: bool) {
+pub fn run_files(rt: &HostRuntime, states: bool) {
     let mut image = io::buffer();
     let mut log = io::large_buffer();
     let mut out = io::large_buffer();
-    let m = read_file(b"config.bin", &mut image);
-    let n = read_file(b"events.bin", &mut log);
+    let m = read_file(rt, b"config.bin", &mut image);
+    let n = read_file(rt, b"events.bin", &mut log);
     print_run(&image[..m], &log[..n], states, &mut out);
 }
 

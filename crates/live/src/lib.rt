@@ -44,8 +44,7 @@ pub fn happen(c: &mut Core, e: Event) -> Answer
 }
 
 // The fresh core of an image of any length (I7 to I10, T6, T7).
-#[unsafe(no_mangle)]
-pub extern "C" fn core_fresh(s: &[u8]) -> Begun
+pub fn core_fresh(s: &[u8]) -> Begun
     ensures { result ≡ begun_from s.now }
 {
     let r = image_reader::read(s);
@@ -59,8 +58,7 @@ pub extern "C" fn core_fresh(s: &[u8]) -> Begun
 }
 
 // An event by value: the state after it, with the answer (T8).
-#[unsafe(no_mangle)]
-pub extern "C" fn core_step(c: Core, e: Input) -> Stepped
+pub fn core_step(c: Core, e: Input) -> Stepped
     ensures { result ≡ step_by c e }
 {
     let mut after = c;
@@ -72,8 +70,7 @@ pub extern "C" fn core_step(c: Core, e: Input) -> Stepped
 }
 
 // The live layer for a host (T9): an event on the core that it lends. One that is not sound is refused with 1 (R1).
-#[unsafe(no_mangle)]
-pub extern "C" fn core_live(c: &mut Core, e: Input) -> Answer
+pub fn core_live(c: &mut Core, e: Input) -> Answer
     ensures { (c.new ≡ (step_by c.old e).core) × (result ≡ (step_by c.old e).answer) }
 {
     if Core::sound(*c) {
@@ -83,8 +80,7 @@ pub extern "C" fn core_live(c: &mut Core, e: Input) -> Answer
 }
 
 // The same (T9) for a host that knows its core to be sound, since only these functions wrote it: nothing is tested.
-#[unsafe(no_mangle)]
-pub extern "C" fn core_inner(c: &mut Core, e: Input) -> Answer
+pub fn core_inner(c: &mut Core, e: Input) -> Answer
     ensures { (c.new ≡ (inner_by c.old e).core) × (result ≡ (inner_by c.old e).answer) }
 {
     let s = inner_after(*c, e);
@@ -96,8 +92,7 @@ pub extern "C" fn core_inner(c: &mut Core, e: Input) -> Answer
 }
 
 // A Copy for a host (T9, E13, E14, D31 to D37): on the core that it lends, with the window that it lends beside it, from the base address on. All of it or nothing (D35). A core that is not sound is refused with 1 (R1).
-#[unsafe(no_mangle)]
-pub extern "C" fn core_copy(c: &mut Core, p: Pieces, m: &mut [u8], base: u32) -> Answer
+pub fn core_copy(c: &mut Core, p: Pieces, m: &mut [u8], base: u32) -> Answer
     ensures { (c.new ≡ (step_of c.old (copy_in p base m.old)).core) × (result ≡ (step_of c.old (copy_in p base m.old)).answer) × (m.new ≡ memory_after c.old (copy_in p base m.old) m.old) }
 {
     let after = copy_of(*c, p, m, base);
@@ -106,8 +101,7 @@ pub extern "C" fn core_copy(c: &mut Core, p: Pieces, m: &mut [u8], base: u32) ->
 }
 
 // The access query for a host (H8 to H11).
-#[unsafe(no_mangle)]
-pub extern "C" fn core_allows(config: Config, vm: u8, address: u32, length: u32, way: u8) -> bool
+pub fn core_allows(config: Config, vm: u8, address: u32, length: u32, way: u8) -> bool
     ensures { result ≡ access config vm address length way }
 {
     config.allows(vm, address, length, way)

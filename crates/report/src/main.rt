@@ -5,29 +5,26 @@ ghost use Rattle.tally.specs.Counting.{OfLogs};
 
 use tally::Tally;
 
-fn main() {
+fn main(rt: HostRuntime) {
     let mut image = io::buffer();
     let mut log = io::large_buffer();
-    let m = console::read_file(b"config.bin", &mut image);
-    let t = counted(&image[..m], &mut log);
+    let m = console::read_file(&rt, b"config.bin", &mut image);
+    let t = counted(&rt, &image[..m], &mut log);
     let n = tally_text::put(&mut log, &image[..m], t);
     io::write_all(1, &log[..n]);
 }
 
 // The figures of the logs in the current folder, up to the first that does not open (N13). No more of a log is read than decides (N20).
-fn counted(image: &[u8], log: &mut [u8]) -> Tally
+fn counted(rt: &HostRuntime, image: &[u8], log: &mut [u8]) -> Tally
     ensures { OfLogs image.now 16 result }
 {
     let mut t = Tally::none();
     let mut k: u8 = 0;
     while k < Tally::LOGS {
         let name = tally_text::log_name(k);
-        let fd = os::open_read(&name);
-        if fd < 0 {
+        let Some(n) = console::read_opened(rt, &name, log) else {
             return t;
-        }
-        let n = io::read_full(fd, log);
-        libc::close(fd);
+        };
         t = t.with_log(image, &log[..n]);
         k = k + 1;
     }
