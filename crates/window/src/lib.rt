@@ -1,5 +1,6 @@
 // The window (E14): memory that a host lends for a Copy; what a Copy asks for (E13), and the copying itself (D36).
 #![tactic(auto)]
+
 mod bytes;
 
 ghost use Rattle.std.specs.Prelude.{ℕ, ◌<◌, ◌≤◌, get_or, length, take, true, ◌≡◌};
