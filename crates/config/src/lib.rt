@@ -1,6 +1,7 @@
 // What a configuration is: the limits, the struct, the test that it keeps the rules of sizes and regions (S1 to S7, H1 to H6), and the
 // access query (H8 to H11).
 #![tactic(auto)]
+
 mod numbers;
 mod places;
 
