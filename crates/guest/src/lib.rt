@@ -1,5 +1,6 @@
 // One VM: its record, the delivery of pseudo-interrupts to it, and the changes that events make in it.
 #![tactic(auto)]
+
 mod bits;
 
 ghost use Rattle.std.specs.Prelude.{◌≡◌, ◌<◌};
