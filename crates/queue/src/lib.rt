@@ -1,6 +1,7 @@
 // The queue for extra time (T5): sixteen places, the oldest entry first, and a count for each VM. Each result has zeros past its
 // entries (W5), and counts that follow what was done (T10), whether those before were right or not.
 #![tactic(auto)]
+
 mod counts;
 
 ghost use Rattle.std.specs.Prelude.{◌≡◌, ◌+◌, ◌<◌, min, true, false, ◌==◌, nat_lt};
