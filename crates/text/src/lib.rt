@@ -3,6 +3,7 @@
 // of other crates, not entry points: each requires room in the buffer for what it puts, and of a table that it is lent
 // that it is `table()`; nothing else.
 #![tactic(auto)]
+
 mod number;
 mod pair;
 
