@@ -1,5 +1,6 @@
 // The table's clock: where the core stands in the table, and how a tick moves it (D5).
 #![tactic(auto)]
+
 ghost use Rattle.std.specs.Prelude.{◌<◌, get_or, ◌≡◌};
 ghost use Rattle.table.specs.Position.{enter_slot, fresh_clock, next_clock, started_clock};
 
