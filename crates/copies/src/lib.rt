@@ -1,5 +1,6 @@
 // What fails in a Copy (D33, D34): all of it is checked before a byte moves (D35).
 #![tactic(auto)]
+
 mod checking;
 
 ghost use Rattle.std.specs.Prelude.{◌≡◌};
