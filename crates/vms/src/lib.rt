@@ -1,5 +1,6 @@
 // The eight VM records of a core: reading and replacing one, starting them, and what a tick does to them.
 #![tactic(auto)]
+
 ghost use Rattle.std.specs.Prelude.{min, ltb, get_or, set, ◌≡◌};
 ghost use Rattle.basis.specs.Choice.{either, pick};
 ghost use Rattle.basis.specs.Nobody.{nobody};
