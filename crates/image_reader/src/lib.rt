@@ -1,5 +1,6 @@
 // The reader of the configuration's image (I7 to I10).
 #![tactic(auto)]
+
 mod reader;
 mod records;
 
