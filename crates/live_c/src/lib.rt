@@ -12,7 +12,6 @@ use live::{Begun, Input};
 use rig_core::{Core, Stepped};
 use window::Pieces;
 
-// The fresh core of an image of any length (I7 to I10, T6, T7).
 #[unsafe(no_mangle)]
 pub extern "C" fn core_fresh(s: &[u8]) -> Begun
     ensures { result ≡ begun_from s.now }
@@ -20,7 +19,6 @@ pub extern "C" fn core_fresh(s: &[u8]) -> Begun
     live::core_fresh(s)
 }
 
-// An event by value: the state after it, with the answer (T8).
 #[unsafe(no_mangle)]
 pub extern "C" fn core_step(c: Core, e: Input) -> Stepped
     ensures { result ≡ step_by c e }
@@ -28,7 +26,6 @@ pub extern "C" fn core_step(c: Core, e: Input) -> Stepped
     live::core_step(c, e)
 }
 
-// The live layer for a host (T9): an event on the core that it lends. One that is not sound is refused with 1 (R1).
 #[unsafe(no_mangle)]
 pub extern "C" fn core_live(c: &mut Core, e: Input) -> Answer
     ensures { (c.new ≡ (step_by c.old e).core) × (result ≡ (step_by c.old e).answer) }
@@ -36,7 +33,6 @@ pub extern "C" fn core_live(c: &mut Core, e: Input) -> Answer
     live::core_live(c, e)
 }
 
-// The same (T9) for a host that knows its core to be sound, since only these functions wrote it: nothing is tested.
 #[unsafe(no_mangle)]
 pub extern "C" fn core_inner(c: &mut Core, e: Input) -> Answer
     ensures { (c.new ≡ (inner_by c.old e).core) × (result ≡ (inner_by c.old e).answer) }
@@ -44,7 +40,6 @@ pub extern "C" fn core_inner(c: &mut Core, e: Input) -> Answer
     live::core_inner(c, e)
 }
 
-// A Copy for a host (T9, E13, E14, D31 to D37): on the core that it lends, with the window that it lends beside it, from the base address on. All of it or nothing (D35). A core that is not sound is refused with 1 (R1).
 #[unsafe(no_mangle)]
 pub extern "C" fn core_copy(c: &mut Core, p: Pieces, m: &mut [u8], base: u32) -> Answer
     ensures { (c.new ≡ (step_of c.old (copy_in p base m.old)).core) × (result ≡ (step_of c.old (copy_in p base m.old)).answer) × (m.new ≡ memory_after c.old (copy_in p base m.old) m.old) }
@@ -52,7 +47,6 @@ pub extern "C" fn core_copy(c: &mut Core, p: Pieces, m: &mut [u8], base: u32) ->
     live::core_copy(c, p, m, base)
 }
 
-// The access query for a host (H8 to H11).
 #[unsafe(no_mangle)]
 pub extern "C" fn core_allows(config: Config, vm: u8, address: u32, length: u32, way: u8) -> bool
     ensures { result ≡ access config vm address length way }
