@@ -1,5 +1,6 @@
 // What an event answers (A1 to A8), and what it makes of one VM, of who runs and of the queue.
 #![tactic(auto)]
+
 mod changes;
 
 ghost use Rattle.std.specs.Prelude.{◌≡◌};
