@@ -1,7 +1,7 @@
 /*
  * The functions of the core for a host in C, or in any language that can call C.
  *
- * They stand in the static library that `rt staticlib live` writes to target/staticlib/liblive.a, for
+ * They stand in the static library that `tools/staticlib` writes to target/staticlib/liblive.a, for
  * Linux on x86-64. Each is proved to meet its contract, which crates/live/src/lib.rt states. The letters
  * with numbers (T1, E2, ..) are those of docs/RULES.md.
  *
