@@ -1,5 +1,6 @@
 // The writer of the configuration's image (I11, I12).
 #![tactic(auto)]
+
 mod writer;
 
 ghost use Rattle.std.specs.Prelude.{◌*◌, ◌+◌, ◌≤◌, length, ◌≡◌};

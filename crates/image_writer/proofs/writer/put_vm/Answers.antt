@@ -1,0 +1,6 @@
+-- A store and two numbers, one behind the other.
+use Rattle.image_writer.proofs.Puts.{vm_put}
+use Rattle.image_writer.proofs.writer.put_vm.Goals as goal
+
+pub returns : goal.returns
+returns c = vm_put _ _ _ _ _ _ c.put_word.ensures c.put_word-2.ensures
