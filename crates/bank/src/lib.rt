@@ -1,5 +1,6 @@
 // The eight VM records of a run as numbers, in two arrays that a caller lends: the standings, and thirteen words for each record.
 #![tactic(auto)]
+
 ghost use Rattle.std.specs.Prelude.{◌≡◌, length, get_or, slice_index_or, slice_set};
 ghost use Rattle.bank.specs.Bank.{vms_of};
 ghost use Rattle.guest.specs.Record.{fresh, is_ready};
