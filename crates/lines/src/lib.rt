@@ -3,6 +3,7 @@
 // other crates, not entry points: each requires room in the buffer for what it puts, and of a lent table that it is
 // `text::table()`.
 #![tactic(auto)]
+
 mod hex;
 mod line;
 
