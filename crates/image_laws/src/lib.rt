@@ -1,5 +1,6 @@
 // Both round trips through an image, as code: read and write again, write and read again.
 #![tactic(auto)]
+
 ghost use Rattle.std.specs.Prelude.{length, ◌≡◌};
 ghost use Rattle.image_laws.specs.Trips.{copy_answer, copy_buffer, returned};
 ghost use Rattle.image_writer.specs.Writer.{buffer_after};
