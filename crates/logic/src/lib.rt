@@ -1,6 +1,7 @@
 // The logic of the events, over small values: the VM that an event is about, the row that refuses it, the change that it makes.
 // Everything that runs events uses it.
 #![tactic(auto)]
+
 ghost use Rattle.std.specs.Prelude.{◌≡◌};
 ghost use Rattle.logic.specs.Changing.{change_from, place_from};
 ghost use Rattle.logic.specs.Rows.{row_from};
