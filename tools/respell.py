@@ -19,7 +19,7 @@ def snake(name):
 
 def lemma_files():
     for path in sorted(glob.glob('crates/*/specs/**/*.antt', recursive=True) + glob.glob('crates/*/proofs/**/*.antt', recursive=True)):
-        if not path.endswith('/Proof.antt'):
+        if not re.search(r'/proofs/.+/(Proof|Answers|Invariants)\.antt$', path):
             yield path
 
 
@@ -30,7 +30,7 @@ def declared():
         for line in open(path, encoding='utf-8'):
             line = re.sub(r'\s*--.*', '', line.rstrip('\n'))
             head = re.match(r"(?:(?:abbrev|unfoldable|pub|private) )*(" + NAME + r")\s*(?:[({].*)?:(?!=)", line)
-            inner = re.match(r"\s+(?:\| ?)?(" + NAME + r")\s*:(?!=)", line)
+            inner = re.match(r"\s+(?:\| ?)?(?:(?:abbrev|unfoldable|pub|private) )*(" + NAME + r")\s*(?:[({].*)?:(?!=)", line)
             hit = head or inner
             if hit:
                 found.add(hit.group(1))
@@ -46,14 +46,22 @@ LEMMAS = {
     'empty-report': None,
     'entries-of': None,
     'example-report': None,
+    'extra-resets': None,
     'figures-text': None,
     'front_of': ('crates/core_laws/proofs/Events.antt',),
+    'joins-uncounted': None,
     'last-of': None,
+    'loses-restore': None,
+    'lowers-other': None,
     'padded-of': None,
     'read-image': None,
+    'refuses-all': None,
     'row-of': None,
     'tells_all': ('crates/trials/specs/Refuted.antt', 'crates/trials/proofs/Refuted.antt'),
     'tells_none': ('crates/trials/specs/Refuted.antt', 'crates/trials/proofs/Refuted.antt'),
+    'tick-owner': None,
+    'uses-up': None,
+    'writes-all': None,
 }
 
 

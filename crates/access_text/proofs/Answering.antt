@@ -12,7 +12,7 @@ use Rattle.basis.proofs.Laws.{both_left, both_right, false_true}
 use Rattle.basis.specs.Bounds.{within}
 use Rattle.basis.specs.Buffer.{put_all}
 use Rattle.basis.specs.Choice.{both}
-use Rattle.config.proofs.Query.{access-known}
+use Rattle.config.proofs.Query.{access_known}
 use Rattle.config.specs.Sizes.{access, legal}
 use Rattle.config.specs.declared.Config.{Config}
 use Rattle.image_reader.specs.Reader.{read_image}
@@ -24,15 +24,15 @@ use Rattle.text.specs.Puts.{Puts}
 
 -- H10: what is asked first
 module _ (g : Config) (v address size way : ℕ) (t k m b : Bool) (ht : t ≡ legal g) (hk : k ≡ within 1 3 way) (hm : m ≡ both (ltb v g.count) k) (hb : b ≡ both t m) where
-  pub answer-asked : (r : Bool) → b ≡ true → r ≡ both (leb g.regions.count 64) (allowed g.regions v address size way) → r ≡ access g v address size way
-  answer-asked r e f =
+  pub answer_asked : (r : Bool) → b ≡ true → r ≡ both (leb g.regions.count 64) (allowed g.regions v address size way) → r ≡ access g v address size way
+  answer_asked r e f =
       let all = sym hb ∙ e in
       let rest = sym hm ∙ both_right t m all in
-      access-known g v address size way k t r (ltb-true v g.count (both_left (ltb v g.count) k rest)) hk (both_right (ltb v g.count) k rest) ht (both_left t m all) f
+      access_known g v address size way k t r (ltb-true v g.count (both_left (ltb v g.count) k rest)) hk (both_right (ltb v g.count) k rest) ht (both_left t m all) f
 
-  pub answer-no : b ≡ false → false ≡ access g v address size way
+  pub answer_no : b ≡ false → false ≡ access g v address size way
   unfolding access
-  answer-no e =
+  answer_no e =
       sym (go (legal g) (ltb v g.count) (within 1 3 way) (rw (ht, hm, hk) at (sym hb ∙ e)))
     where
       go : (x y z : Bool) → both x (both y z) ≡ false → both x (both y (both z (allowed g.regions v address size way))) ≡ false
@@ -56,15 +56,15 @@ unfolding shown_in put_all
 shown_none {b} image queries h = rw (lt-ltb (length b) enough h) (record { bytes = refl; next = refl })
 
 module _ {b m : List ℕ} {j : ℕ} (image queries : List ℕ) (room : enough ≤ length b) {r : Reading} (k : r ≡ read_image image) where
-  pub shown-refused : (r.fault ≡ 0 → ⊥) → Puts (refused_text r.fault r.offset) b 0 m j → Puts (shown_in (length b) image queries) b 0 m j
+  pub shown_refused : (r.fault ≡ 0 → ⊥) → Puts (refused_text r.fault r.offset) b 0 m j → Puts (shown_in (length b) image queries) b 0 m j
   unfolding shown_in access_text
-  shown-refused h p = rw (le-ltb (length b) enough room, ← k, ne_eqb r.fault 0 h) p
+  shown_refused h p = rw (le-ltb (length b) enough room, ← k, ne_eqb r.fault 0 h) p
 
-  pub shown-long : r.fault ≡ 0 → longest < length queries → Puts long_line b 0 m j → Puts (shown_in (length b) image queries) b 0 m j
+  pub shown_long : r.fault ≡ 0 → longest < length queries → Puts long_line b 0 m j → Puts (shown_in (length b) image queries) b 0 m j
   unfolding shown_in access_text
-  shown-long h l p = rw (le-ltb (length b) enough room, ← k, eq-eqb r.fault 0 h, lt-ltb longest (length queries) l) p
+  shown_long h l p = rw (le-ltb (length b) enough room, ← k, eq-eqb r.fault 0 h, lt-ltb longest (length queries) l) p
 
-  pub shown-answers : r.fault ≡ 0 → length queries ≤ longest → Puts (answers_text r.config queries (length queries / 10) ++ rest_text (length queries)) b 0 m j
+  pub shown_answers : r.fault ≡ 0 → length queries ≤ longest → Puts (answers_text r.config queries (length queries / 10) ++ rest_text (length queries)) b 0 m j
       → Puts (shown_in (length b) image queries) b 0 m j
   unfolding shown_in access_text
-  shown-answers h l p = rw (le-ltb (length b) enough room, ← k, eq-eqb r.fault 0 h, le-ltb longest (length queries) l) p
+  shown_answers h l p = rw (le-ltb (length b) enough room, ← k, eq-eqb r.fault 0 h, le-ltb longest (length queries) l) p

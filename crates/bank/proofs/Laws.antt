@@ -6,7 +6,7 @@ use native.Mathlib.Decide.{dec_lt, ℕ_discrete}
 use Rattle.bank.specs.Bank.{record_at, stores, vms_of, words_of}
 use Rattle.guest.specs.Record.{fresh, is_ready, older, saved_at}
 use Rattle.guest.specs.declared.Vm.{Vm}
-use Rattle.vms.proofs.Laws.{each_at, each-length, each_more}
+use Rattle.vms.proofs.Laws.{each_at, each_length, each_more}
 use Rattle.vms.specs.Records.{each}
 use Rattle.vms.specs.Tick.{saving}
 
@@ -83,8 +83,8 @@ module _ (standings words : List ℕ) (i : ℕ) (v : Vm) (low : i < 8) (eights :
   unfolding record_at
   here = rw (stores_out (words_of v) (set words (i * 13) v.address) (i * 13) 1 (i * 13) (inl (omega arith)) ∙ get_or-set_same words (i * 13) v.address 0 (omega arith), put_in 0 (omega arith), put_in 1 (omega arith), put_in 2 (omega arith), put_in 3 (omega arith), put_in 4 (omega arith), put_in 5 (omega arith), put_in 6 (omega arith), put_in 7 (omega arith), put_in 8 (omega arith), put_in 9 (omega arith), put_in 10 (omega arith), put_in 11 (omega arith), get_or-set_same standings i v.standing 0 (omega arith))
 
-  pub put-law : vms_of (set standings i v.standing) after ≡ set (vms_of standings words) i v
-  put-law = one_changed standings (set standings i v.standing) words after i v low others here
+  pub put_law : vms_of (set standings i v.standing) after ≡ set (vms_of standings words) i v
+  put_law = one_changed standings (set standings i v.standing) words after i v low others here
 
 pub vm_past : (standings words : List ℕ) (i : ℕ) (r : Vm) → 8 ≤ i → r ≡ fresh → r ≡ get_or (vms_of standings words) i fresh
 vm_past standings words i r h e = e ∙ sym (get_or-eq_default (vms_of standings words) fresh (omega (arith, eight standings words)))
@@ -135,9 +135,9 @@ module _ (standings words : List ℕ) (i x : ℕ) (low : i < 8) (wide : length w
   unfolding record_at
   save_here = rw (vm_in standings words i low, get_or-set_same words (i * 13) x 0 (omega arith), save_kept (i * 13 + 1) (λ z. omega arith), save_kept (i * 13 + 2) (λ z. omega arith), save_kept (i * 13 + 3) (λ z. omega arith), save_kept (i * 13 + 4) (λ z. omega arith), save_kept (i * 13 + 5) (λ z. omega arith), save_kept (i * 13 + 6) (λ z. omega arith), save_kept (i * 13 + 7) (λ z. omega arith), save_kept (i * 13 + 8) (λ z. omega arith), save_kept (i * 13 + 9) (λ z. omega arith), save_kept (i * 13 + 10) (λ z. omega arith), save_kept (i * 13 + 11) (λ z. omega arith), save_kept (i * 13 + 12) (λ z. omega arith))
 
-  pub save-law : vms_of standings (set words (i * 13) x) ≡ saving i x (vms_of standings words)
+  pub save_law : vms_of standings (set words (i * 13) x) ≡ saving i x (vms_of standings words)
   unfolding saving
-  save-law = rw (lt-ltb i 8 low) (one_changed standings standings words (set words (i * 13) x) i (saved_at x (get_or (vms_of standings words) i fresh)) low save_others save_here)
+  save_law = rw (lt-ltb i 8 low) (one_changed standings standings words (set words (i * 13) x) i (saved_at x (get_or (vms_of standings words) i fresh)) low save_others save_here)
 
 pub save_past : (standings words : List ℕ) (i x : ℕ) → 8 ≤ i → vms_of standings words ≡ saving i x (vms_of standings words)
 unfolding saving
@@ -149,7 +149,7 @@ copied l = each (λ k v. get_or l k fresh)
 
 pub copied_all : (l m : List Vm) → length l ≡ 8 → length m ≡ 8 → copied l 8 m ≡ l
 copied_all l m h g =
-    ext_get_or fresh (copied l 8 m) l (each-length (λ k v. get_or l k fresh) m 8 ∙ g ∙ sym h) (λ k q. at k (omega (arith, each-length (λ k v. get_or l k fresh) m 8)))
+    ext_get_or fresh (copied l 8 m) l (each_length (λ k v. get_or l k fresh) m 8 ∙ g ∙ sym h) (λ k q. at k (omega (arith, each_length (λ k v. get_or l k fresh) m 8)))
   where
     at : (k : ℕ) → k < 8 → get_or (copied l 8 m) k fresh ≡ get_or l k fresh
     at k q = each_at (λ k v. get_or l k fresh) m 8 k (omega arith) ∙ rw (lt-ltb k 8 q)

@@ -10,7 +10,7 @@ use mathlib.Core.List.{List, [], ◌∷◌}
 use mathlib.Core.Path.{refl, sym, ◌∙◌, ◌≡◌}
 use native.Mathlib.Decide.{dec_lt}
 use native.Mathlib.Omega.{arith}
-use Rattle.basis.proofs.Laws.{both_left, both_of, both_right, both_swap, either_left, either_right, every-is, every_more, every_of, or_none, same_test}
+use Rattle.basis.proofs.Laws.{both_left, both_of, both_right, both_swap, either_left, either_right, every_is, every_more, every_of, or_none, same_test}
 use Rattle.basis.specs.Bounds.{empty_past, empty_rest, within, zeros}
 use Rattle.basis.specs.Choice.{both, either, pick}
 use Rattle.basis.specs.Count.{every}
@@ -78,6 +78,6 @@ rest_both n xs ys b e =
     e
     ∙ same_test _ _
     (λ h. both_of (empty_rest n xs) _
-    (rest_of n xs (λ k l m. (empty_is n k (get_or xs k 0) (get_or ys k 0) (every-is _ 64 h k m) l).0))
-    (rest_of n ys (λ k l m. (empty_is n k (get_or xs k 0) (get_or ys k 0) (every-is _ 64 h k m) l).1)))
+    (rest_of n xs (λ k l m. (empty_is n k (get_or xs k 0) (get_or ys k 0) (every_is _ 64 h k m) l).0))
+    (rest_of n ys (λ k l m. (empty_is n k (get_or xs k 0) (get_or ys k 0) (every_is _ 64 h k m) l).1)))
     (λ h. every_of _ 64 (λ k m. empty_of n k (get_or xs k 0) (get_or ys k 0) (λ l. (rest_is n xs (both_left (empty_rest n xs) _ h) k l m, rest_is n ys (both_right (empty_rest n xs) _ h) k l m))))

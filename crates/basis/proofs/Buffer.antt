@@ -44,13 +44,13 @@ module _ (f : ℕ → List ℕ) (w : ℕ) (wide : (k : ℕ) → length (f k) ≡
   joined_length (suc n) = length-append (joined f n) (f n) ∙ ap (λ (k : ℕ). k + length (f n)) (joined_length n) ∙ ap (λ (k : ℕ). n * w + k) (wide n) ∙ sym (suc-mul n w)
 
   -- a loop that puts record k behind the first k records
-  pub records-none : (b : List ℕ) (i : ℕ) → b ≡ put_all b i (joined f 0)
+  pub records_none : (b : List ℕ) (i : ℕ) → b ≡ put_all b i (joined f 0)
   unfolding joined put_all
-  records-none b i = refl
+  records_none b i = refl
 
-  pub records-more : (b₀ b b' : List ℕ) (i at k : ℕ) → b ≡ put_all b₀ i (joined f k) → at ≡ i + k * w → b' ≡ put_all b at (f k) → b' ≡ put_all b₀ i (joined f (k + 1))
+  pub records_more : (b₀ b b' : List ℕ) (i at k : ℕ) → b ≡ put_all b₀ i (joined f k) → at ≡ i + k * w → b' ≡ put_all b at (f k) → b' ≡ put_all b₀ i (joined f (k + 1))
   unfolding joined
-  records-more b₀ b b' i at k e a h =
+  records_more b₀ b b' i at k e a h =
       h ∙ rw (e, a, put_all_join (joined f k) (f k) b₀ i (k * w) (joined_length k)) (ap (λ (m : ℕ). put_all b₀ i (joined f m)) (sym (add-one k)))
 
 pub records_end : (f : ℕ → List ℕ) (b₀ b : List ℕ) (i n m : ℕ) → b ≡ put_all b₀ i (joined f n) → n ≡ m → b ≡ put_all b₀ i (joined f m)

@@ -115,20 +115,20 @@ either_right false b e = e
 
 module _ (p : ℕ → Bool) where
   -- a loop over the numbers below n that joins p's answers
-  pub every-none : (x : Bool) → x ≡ true → x ≡ every p 0
+  pub every_none : (x : Bool) → x ≡ true → x ≡ every p 0
   unfolding every
-  every-none x e = e
+  every_none x e = e
 
   pub every_more : (n : ℕ) (x y : Bool) → x ≡ every p n → y ≡ both (p n) x → y ≡ every p (n + 1)
   unfolding every
   every_more n x y e f = rw add-one (rw (← e) f)
 
-  pub every-end : (n m : ℕ) (x : Bool) → x ≡ every p n → n ≡ m → x ≡ every p m
-  every-end n m x e f = rw (← f) e
+  pub every_end : (n m : ℕ) (x : Bool) → x ≡ every p n → n ≡ m → x ≡ every p m
+  every_end n m x e f = rw (← f) e
 
-  pub some-none : (x : Bool) → x ≡ false → x ≡ some p 0
+  pub some_none : (x : Bool) → x ≡ false → x ≡ some p 0
   unfolding some
-  some-none x e = e
+  some_none x e = e
 
   pub some_more : (n : ℕ) (x y : Bool) → x ≡ some p n → y ≡ either (p n) x → y ≡ some p (n + 1)
   unfolding some
@@ -138,12 +138,12 @@ module _ (p : ℕ → Bool) where
   some_end n m x e f = rw (← f) e
 
   -- the test is the fact about each number, or about one
-  pub every-is : (n : ℕ) → every p n ≡ true → (k : ℕ) → k < n → p k ≡ true
+  pub every_is : (n : ℕ) → every p n ≡ true → (k : ℕ) → k < n → p k ≡ true
   unfolding every
-  every-is zero e k h = absurd (omega arith)
-  every-is (suc n) e k h =
+  every_is zero e k h = absurd (omega arith)
+  every_is (suc n) e k h =
       elim (dec_lt k n) [
-        | yes l ↦ every-is n (both_right (p n) (every p n) e) k l
+        | yes l ↦ every_is n (both_right (p n) (every p n) e) k l
         | no l ↦ (let i : k ≡ n = omega arith in rw i (both_left (p n) (every p n) e))
       ]
 
@@ -171,14 +171,14 @@ module _ (p : ℕ → Bool) where
       ]
 
   -- a search that ends early
-  pub some-hit : (n k : ℕ) → k < n → p k ≡ true → true ≡ some p n
-  some-hit n k h e = sym (some_of n k h e)
+  pub some_hit : (n k : ℕ) → k < n → p k ≡ true → true ≡ some p n
+  some_hit n k h e = sym (some_of n k h e)
 
-  pub every-miss : (n k : ℕ) → k < n → p k ≡ false → false ≡ every p n
-  every-miss n k h e = go (every p n) refl
+  pub every_miss : (n k : ℕ) → k < n → p k ≡ false → false ≡ every p n
+  every_miss n k h e = go (every p n) refl
     where
       go : (b : Bool) → every p n ≡ b → false ≡ b
-      go true f = false_true (sym e ∙ every-is n f k h)
+      go true f = false_true (sym e ∙ every_is n f k h)
       go false f = refl
 
 -- a loop that counts
@@ -195,8 +195,8 @@ module _ (p : ℕ → Bool) where
       go true = omega arith
       go false = omega arith
 
-  pub count-end : (n m x : ℕ) → x ≡ how_many p n → n ≡ m → x ≡ how_many p m
-  count-end n m x e f = rw (← f) e
+  pub count_end : (n m x : ℕ) → x ≡ how_many p n → n ≡ m → x ≡ how_many p m
+  count_end n m x e f = rw (← f) e
 
   pub count_most : (n : ℕ) → how_many p n ≤ n
   unfolding how_many
@@ -211,16 +211,16 @@ every_same p q h (suc n) = rw (h n, every_same p q h n)
 
 -- a loop that changes one value
 module _ {A : Type 0} (f : ℕ → A → A) (a : A) where
-  pub upTo-none : (x : A) → x ≡ a → x ≡ up_to f a 0
+  pub up_to_none : (x : A) → x ≡ a → x ≡ up_to f a 0
   unfolding up_to
-  upTo-none x e = e
+  up_to_none x e = e
 
-  pub upTo-more : (n : ℕ) (x y : A) → x ≡ up_to f a n → y ≡ f n x → y ≡ up_to f a (n + 1)
+  pub up_to_more : (n : ℕ) (x y : A) → x ≡ up_to f a n → y ≡ f n x → y ≡ up_to f a (n + 1)
   unfolding up_to
-  upTo-more n x y e g = rw add-one (rw (← e) g)
+  up_to_more n x y e g = rw add-one (rw (← e) g)
 
-  pub upTo-end : (n m : ℕ) (x : A) → x ≡ up_to f a n → n ≡ m → x ≡ up_to f a m
-  upTo-end n m x e g = rw (← g) e
+  pub up_to_end : (n m : ℕ) (x : A) → x ≡ up_to f a n → n ≡ m → x ≡ up_to f a m
+  up_to_end n m x e g = rw (← g) e
 
 -- joined bits are zero where both are
 pub or_none : (a b : ℕ) → eqb (bit_or a b) 0 ≡ both (eqb b 0) (eqb a 0)
@@ -251,4 +251,4 @@ some_below p q (suc n) h = rw (h n (omega arith), some_below p q n (λ k l. h k 
 
 pub ruleset picks = (ways, pick_true, pick_false)
 
-pub ruleset turns = (ways, every-none, every_more, some-none, some_more, count_none, count_more, upTo-none, upTo-more)
+pub ruleset turns = (ways, every_none, every_more, some_none, some_more, count_none, count_more, up_to_none, up_to_more)

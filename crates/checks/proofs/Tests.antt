@@ -103,8 +103,8 @@ module _ (g : Config) (clock : Clock) (running : ℕ) (queue : Queue) (vms : Lis
     parts_law true e = both_yes a ∙ joined_law (sym e)
     parts_law false e = both_no a ∙ rw (← e)
 
-    pub parts-yes : (t : Bool) → a ≡ true → t ≡ legal g → t ≡ sound_from g clock running queue vms
-    parts-yes t y e = rw y at (parts_law t e)
+    pub parts_yes : (t : Bool) → a ≡ true → t ≡ legal g → t ≡ sound_from g clock running queue vms
+    parts_yes t y e = rw y at (parts_law t e)
 
-    pub parts-no : (x : Bool) → a ≡ false → x ≡ false → x ≡ sound_from g clock running queue vms
-    parts-no x y z = z ∙ (rw y at (parts_law (legal g) refl))
+    pub parts_no : (x : Bool) → a ≡ false → x ≡ false → x ≡ sound_from g clock running queue vms
+    parts_no x y z = z ∙ (rw y at (parts_law (legal g) refl))

@@ -2,7 +2,7 @@
 use Rattle.std.proofs.Common.{◌≡◌, ℕ, zero, suc, ◌<◌, ◌≤◌, Bool, true, false, eqb, ltb, leb, ◌⊎◌, sym, refl, ◌∙◌, inl, inr, ⊎_elim, ltb-true, lt-ltb, eq-eqb, ne_eqb, eqb-true, le-leb, leb-true}
 use borrow.Author.Tests.{eqb-false}
 use Rattle.basis.proofs.Bounds.{empty_is, empty_of, within_is, within_of}
-use Rattle.basis.proofs.Laws.{both_left, both_no, both_of, both_right, both_yes, either_is, either_left, either_right, every-is, every_of, pick_case, some_is, some_of}
+use Rattle.basis.proofs.Laws.{both_left, both_no, both_of, both_right, both_yes, either_is, either_left, either_right, every_is, every_of, pick_case, some_is, some_of}
 use Rattle.basis.specs.Bounds.{within}
 use Rattle.basis.specs.Choice.{both}
 use Rattle.basis.specs.Count.{every}
@@ -137,8 +137,8 @@ pub legal_is : (c : Config) → legal c ≡ true → Legal c
 unfolding durations_fit owners_fit vms_served has_slot vms_rest slots_rest
 legal_is c e =
     let r = rules_is c e in
-    let long = every-is _ c.slots r.durations in
-    let own = every-is _ c.slots r.owners in
+    let long = every_is _ c.slots r.durations in
+    let own = every_is _ c.slots r.owners in
     record {
       vms = within_is 1 8 c.count r.vms;
       queue = leb-true c.room 16 r.queue;
@@ -147,9 +147,9 @@ legal_is c e =
       named = λ k h. lasts_named (owner_at c k) (duration_at c k) (long k h);
       owned = λ k h. names_is c.count (owner_at c k) (own k h);
       regions = lawful_is c.count c.regions r.regions;
-      served = λ v h. (let s = some_is _ c.slots (every-is _ c.count r.served v h) in (s.0, s.1, eqb-true (owner_at c s.0) v s.2));
-      vms_empty = λ k h l. empty_is c.count k (entry_at c k) (handler_at c k) (every-is _ 8 r.vms_empty k l) h;
-      slots_empty = λ k h l. empty_is c.slots k (owner_at c k) (duration_at c k) (every-is _ 64 r.slots_empty k l) h;
+      served = λ v h. (let s = some_is _ c.slots (every_is _ c.count r.served v h) in (s.0, s.1, eqb-true (owner_at c s.0) v s.2));
+      vms_empty = λ k h l. empty_is c.count k (entry_at c k) (handler_at c k) (every_is _ 8 r.vms_empty k l) h;
+      slots_empty = λ k h l. empty_is c.slots k (owner_at c k) (duration_at c k) (every_is _ 64 r.slots_empty k l) h;
     }
 
 -- S1 to S7, H1 to H6: and a configuration that keeps the rules passes it

@@ -12,29 +12,29 @@ use Rattle.grants.specs.Access.{Granted, Permits, allowed}
 use Rattle.regions.specs.Rules.{permission_at}
 
 module _ (c : Config) (v address length way : ℕ) where
-  pub access-stranger : c.count ≤ v → false ≡ access c v address length way
+  pub access_stranger : c.count ≤ v → false ≡ access c v address length way
   unfolding access
-  access-stranger h = rw (le-ltb v c.count h) (sym (both_no (legal c)))
+  access_stranger h = rw (le-ltb v c.count h) (sym (both_no (legal c)))
 
-  pub access-odd : (b : Bool) → b ≡ within 1 3 way → b ≡ false → false ≡ access c v address length way
+  pub access_odd : (b : Bool) → b ≡ within 1 3 way → b ≡ false → false ≡ access c v address length way
   unfolding access
-  access-odd b e t = rw (sym e ∙ t, both_no (ltb v c.count)) (sym (both_no (legal c)))
+  access_odd b e t = rw (sym e ∙ t, both_no (ltb v c.count)) (sym (both_no (legal c)))
 
-  pub access-illegal : (b : Bool) → b ≡ legal c → b ≡ false → false ≡ access c v address length way
+  pub access_illegal : (b : Bool) → b ≡ legal c → b ≡ false → false ≡ access c v address length way
   unfolding access
-  access-illegal b e t = rw (sym e ∙ t)
+  access_illegal b e t = rw (sym e ∙ t)
 
-  pub access-known : (a b r : Bool) → v < c.count → a ≡ within 1 3 way → a ≡ true → b ≡ legal c → b ≡ true
+  pub access_known : (a b r : Bool) → v < c.count → a ≡ within 1 3 way → a ≡ true → b ≡ legal c → b ≡ true
       → r ≡ both (leb c.regions.count 64) (allowed c.regions v address length way) → r ≡ access c v address length way
   unfolding access
-  access-known a b r h e t f u g =
+  access_known a b r h e t f u g =
       let few = (legal_is c (sym f ∙ u)).regions.few in
       g ∙ rw (sym f ∙ u, lt-ltb v c.count h, sym e ∙ t, le-leb c.regions.count 64 few)
 
   -- H8 to H11: a query that is answered with yes has its facts
-  pub access-is : access c v address length way ≡ true → Accessible c v address length way
+  pub access_is : access c v address length way ≡ true → Accessible c v address length way
   unfolding access
-  access-is e =
+  access_is e =
       let e1 = both_right (legal c) _ e in
       let e2 = both_right (ltb v c.count) _ e1 in
       record {
@@ -54,15 +54,15 @@ module _ (c : Config) (v address length way : ℕ) where
       (allowed_of c.regions v address length way f.bytes)))
 
   -- H11: a configuration without regions grants no byte
-  pub none-granted : c.regions.count ≡ 0 → access c v address length way ≡ true → length ≡ 0
+  pub none_granted : c.regions.count ≡ 0 → access c v address length way ≡ true → length ≡ 0
   unfolding access
-  none-granted z e =
+  none_granted z e =
       none_allowed c.regions v address length way z
       (both_right (within 1 3 way) _ (both_right (ltb v c.count) _ (both_right (legal c) _ e)))
 
 -- a query for one byte
 byte_granted : (c : Config) (v a way : ℕ) → access c v a 1 way ≡ true → Granted c.regions v way a
-byte_granted c v a way e = ⊎_elim (λ h. absurd (omega arith)) (λ h. h.1 a (omega arith) (omega arith)) (access-is c v a 1 way e).bytes
+byte_granted c v a way e = ⊎_elim (λ h. absurd (omega arith)) (λ h. h.1 a (omega arith) (omega arith)) (access_is c v a 1 way e).bytes
 
 may_write : (p : ℕ) → Permits 2 p → p ≡ 2
 may_write p = ⊎_elim (λ h. absurd (omega (arith, h.0))) (⊎_elim (λ h. h.1) (λ h. absurd (omega (arith, h.0))))
@@ -79,6 +79,6 @@ shared_whole c v w a way n e f =
       held = (g.held, h.held);
       inside = (g.from, g.to);
       same =
-          (access-is c v a 1 2 e).legal.regions.shared g.place h.place g.listed h.listed (may_write (permission_at c.regions g.place) g.permits)
+          (access_is c v a 1 2 e).legal.regions.shared g.place h.place g.listed h.listed (may_write (permission_at c.regions g.place) g.permits)
           (λ z. n (sym g.held ∙ z ∙ h.held)) (omega (arith, g.from, h.to)) (omega (arith, h.from, g.to));
     }

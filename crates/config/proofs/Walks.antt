@@ -4,7 +4,7 @@ use borrow.Author.Tests.{lt-leb}
 use lib.Bits.{and_mask, bit_and, bit_or}
 use native.Mathlib.Decide.{dec_lt}
 use Rattle.basis.proofs.Bits.{bit_or_lem, bit_zero, low_full, power_bit}
-use Rattle.basis.proofs.Laws.{both_left, both_no, both_of, both_right, both_yes, either_is, either_no, every_below, every-is, every_of, every_same, false_true, fault_more, same_test, some_below, some_is, some_more, some_of}
+use Rattle.basis.proofs.Laws.{both_left, both_no, both_of, both_right, both_yes, either_is, either_no, every_below, every_is, every_of, every_same, false_true, fault_more, same_test, some_below, some_is, some_more, some_of}
 use Rattle.basis.specs.Bits.{bit}
 use Rattle.basis.specs.Bounds.{empty_past}
 use Rattle.basis.specs.Choice.{both, either, pick}
@@ -23,7 +23,7 @@ leb_zero n =
 -- the lent constant holds the places' own numbers
 pub place_at : (l : List ℕ) (k : ℕ) → l ≡ place_numbers → k < 64 → get_or l k 0 ≡ k
 unfolding place_numbers every
-place_at l k e h = rw e (eqb-true (get_or place_numbers k 0) k (every-is (λ j. eqb (get_or place_numbers j 0) j) 64 refl k h))
+place_at l k e h = rw e (eqb-true (get_or place_numbers k 0) k (every_is (λ j. eqb (get_or place_numbers j 0) j) 64 refl k h))
 
 pub owner_law : (used : Bool) (most owner m far r : ℕ) (b : Bool) → m ≡ pick used most 0 → far ≡ pick (leb owner m) 0 1
     → b ≡ both used (eqb owner nobody) → r ≡ pick b 0 far → r ≡ pick (pick used (either (is_spare owner) (leb owner most)) (eqb owner 0)) 0 1
@@ -83,13 +83,13 @@ ticks_law false owner ticks least more most r b hl hs hb hm ho hr =
 
 -- a turn of the two walks
 module _ (places : List ℕ) (slots k owner x bits y : ℕ) (p : ℕ → Bool) (l : places ≡ place_numbers) (h : k < 64) (e : eqb bits 0 ≡ every p k) (f : y ≡ bit_or bits x) where
-  pub owner-turn : (count most : ℕ) → 1 ≤ count → most ≡ count - 1 → p k ≡ owner_fits count slots k owner
+  pub owner_turn : (count most : ℕ) → 1 ≤ count → most ≡ count - 1 → p k ≡ owner_fits count slots k owner
       → x ≡ pick (pick (ltb (get_or places k 0) slots) (either (is_spare owner) (leb owner most)) (eqb owner 0)) 0 1 → eqb y 0 ≡ every p (k + 1)
-  owner-turn count most m d o g = fault_more p k x bits y e (rw (place_at places k l h, last_law count slots k owner most m d, ← o) at g) f
+  owner_turn count most m d o g = fault_more p k x bits y e (rw (place_at places k l h, last_law count slots k owner most m d, ← o) at g) f
 
-  pub ticks-turn : (ticks : ℕ) → p k ≡ ticks_fit slots k owner ticks
+  pub ticks_turn : (ticks : ℕ) → p k ≡ ticks_fit slots k owner ticks
       → x ≡ pick (pick (ltb (get_or places k 0) slots) (lasts owner ticks) (eqb ticks 0)) 0 1 → eqb y 0 ≡ every p (k + 1)
-  ticks-turn ticks o g = fault_more p k x bits y e (rw (place_at places k l h, ← o) at g) f
+  ticks_turn ticks o g = fault_more p k x bits y e (rw (place_at places k l h, ← o) at g) f
 
 pub power_is : (n : ℕ) → 1 * 2 ^ (n % 64) % 18446744073709551616 ≡ 2 ^ (n % 64)
 power_is n =
@@ -192,14 +192,14 @@ every_split : (p : ℕ → Bool) (n m : ℕ) → every p (n + m) ≡ both (every
 every_split p n m = same_test _ _ to of
   where
     to : every p (n + m) ≡ true → both (every p n) (every (λ v. p (n + v)) m) ≡ true
-    to e = both_of _ _ (every_of p n (λ k l. every-is p (n + m) e k (omega arith))) (every_of (λ v. p (n + v)) m (λ k l. every-is p (n + m) e (n + k) (omega arith)))
+    to e = both_of _ _ (every_of p n (λ k l. every_is p (n + m) e k (omega arith))) (every_of (λ v. p (n + v)) m (λ k l. every_is p (n + m) e (n + k) (omega arith)))
 
     of : both (every p n) (every (λ v. p (n + v)) m) ≡ true → every p (n + m) ≡ true
     of e =
         every_of p (n + m)
         (λ k l. elim (dec_lt k n) [
-          | yes h ↦ every-is p n (both_left _ _ e) k h
-          | no h ↦ (let z : n + (k - n) ≡ k = omega arith in rw z at (every-is (λ v. p (n + v)) m (both_right (every p n) _ e) (k - n) (omega arith)))
+          | yes h ↦ every_is p n (both_left _ _ e) k h
+          | no h ↦ (let z : n + (k - n) ≡ k = omega arith in rw z at (every_is (λ v. p (n + v)) m (both_right (every p n) _ e) (k - n) (omega arith)))
         ])
 
 pub many_law : (slots count low high rest : ℕ) (owners : List ℕ) (a b r : Bool) → NamedFrom 0 slots owners low → NamedFrom 4 slots owners high → 4 < count → count ≤ 8
@@ -261,37 +261,37 @@ module _ (count slots : ℕ) (owners durations : List ℕ) where
 
   walks_to : slots ≤ 64 → both (every owns 64) (every ticks 64) ≡ true → (every fits slots ≡ true) × (every past 64 ≡ true)
   walks_to h e =
-      let o = every-is owns 64 (both_left (every owns 64) _ e) in
-      let t = every-is ticks 64 (both_right (every owns 64) _ e) in (
+      let o = every_is owns 64 (both_left (every owns 64) _ e) in
+      let t = every_is ticks 64 (both_right (every owns 64) _ e) in (
         every_of fits slots (λ k l. used_fits count slots k (get_or owners k 0) (get_or durations k 0) l (o k (omega arith)) (t k (omega arith))),
         every_of past 64 (λ k l. past_fits count slots k (get_or owners k 0) (get_or durations k 0) (o k l) (t k l)),
       )
 
   walks_of : every fits slots ≡ true → every past 64 ≡ true → both (every owns 64) (every ticks 64) ≡ true
   walks_of f e =
-      let g = every-is fits slots f in
-      let p = every-is past 64 e in
+      let g = every_is fits slots f in
+      let p = every_is past 64 e in
       both_of (every owns 64) _
       (every_of owns 64 (λ k l. owner_of count slots k (get_or owners k 0) (get_or durations k 0) (g k) (p k l)))
       (every_of ticks 64 (λ k l. ticks_of count slots k (get_or owners k 0) (get_or durations k 0) (g k) (p k l)))
 
   -- S5 where the walks found no fault
-  pub owned-law : (fit : Bool) → slots ≤ 64 → fit ≡ both (every owns 64) (every ticks 64) → fit ≡ true → every (λ k. names count (get_or owners k 0)) slots ≡ true
-  owned-law fit h e t =
-      every_of _ slots (λ k l. both_right (lasts (get_or owners k 0) (get_or durations k 0)) _ (every-is fits slots (walks_to h (sym e ∙ t)).0 k l))
+  pub owned_law : (fit : Bool) → slots ≤ 64 → fit ≡ both (every owns 64) (every ticks 64) → fit ≡ true → every (λ k. names count (get_or owners k 0)) slots ≡ true
+  owned_law fit h e t =
+      every_of _ slots (λ k l. both_right (lasts (get_or owners k 0) (get_or durations k 0)) _ (every_is fits slots (walks_to h (sym e ∙ t)).0 k l))
 
-  pub fit-law : (entries handlers : List ℕ) (fit served vms r : Bool) → slots ≤ 64 → fit ≡ both (every owns 64) (every ticks 64) → fit ≡ true
+  pub fit_law : (entries handlers : List ℕ) (fit served vms r : Bool) → slots ≤ 64 → fit ≡ both (every owns 64) (every ticks 64) → fit ≡ true
       → served ≡ every (λ v. some (λ k. eqb (get_or owners k 0) v) slots) count
       → vms ≡ every (λ k. empty_past count k (get_or entries k 0) (get_or handlers k 0)) 8 → r ≡ both served vms
       → r ≡ places_fit count slots entries handlers owners durations
   unfolding places_fit
-  fit-law entries handlers fit served vms r h e t hs hv hr =
+  fit_law entries handlers fit served vms r h e t hs hv hr =
       let w = walks_to h (sym e ∙ t) in
       rw (hr, hs, hv, w.0, w.1, both_yes (every (λ k. empty_past count k (get_or entries k 0) (get_or handlers k 0)) 8))
 
-  pub unfit-law : (entries handlers : List ℕ) (fit : Bool) → fit ≡ both (every owns 64) (every ticks 64) → fit ≡ false → false ≡ places_fit count slots entries handlers owners durations
+  pub unfit_law : (entries handlers : List ℕ) (fit : Bool) → fit ≡ both (every owns 64) (every ticks 64) → fit ≡ false → false ≡ places_fit count slots entries handlers owners durations
   unfolding places_fit
-  unfit-law entries handlers fit e t = same_test _ _ (λ i. false_true i) (λ i. sym t ∙ e ∙ holds i)
+  unfit_law entries handlers fit e t = same_test _ _ (λ i. false_true i) (λ i. sym t ∙ e ∙ holds i)
     where
       holds : both (every fits slots) (both (every (λ v. some (λ k. eqb (get_or owners k 0) v) slots) count) (both (every (λ k. empty_past count k (get_or entries k 0) (get_or handlers k 0)) 8) (every past 64))) ≡ true
           → both (every owns 64) (every ticks 64) ≡ true
@@ -301,4 +301,4 @@ module _ (count slots : ℕ) (owners durations : List ℕ) where
 pub exact_law : (count slots : ℕ) (owners : List ℕ) (r : Bool) → count ≤ 8 → every (λ k. names count (get_or owners k 0)) slots ≡ true
     → r ≡ every (λ v. some (λ k. eqb (get_or owners k 0 % 64) v) slots) count → r ≡ every (λ v. some (λ k. eqb (get_or owners k 0) v) slots) count
 exact_law count slots owners r h e f =
-    f ∙ every_below _ _ count (λ v l. some_below _ _ slots (λ k i. mod_names count (get_or owners k 0) v h l (every-is (λ j. names count (get_or owners j 0)) slots e k i)))
+    f ∙ every_below _ _ count (λ v l. some_below _ _ slots (λ k i. mod_names count (get_or owners k 0) v h l (every_is (λ j. names count (get_or owners j 0)) slots e k i)))

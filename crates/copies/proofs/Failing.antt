@@ -20,27 +20,27 @@ use Rattle.window.specs.declared.Window.{Window}
 
 -- the way of the code through one extent
 module _ (query : ℕ → ℕ → ℕ → Bool) (w : Window) (x : Extent) (r : Failure) where
-  pub extent-none : x.length ≡ 0 → r ≡ fine → r ≡ extent_failure query w x
+  pub extent_none : x.length ≡ 0 → r ≡ fine → r ≡ extent_failure query w x
   unfolding extent_failure
-  extent-none h e = rw (eq-eqb x.length 0 h) e
+  extent_none h e = rw (eq-eqb x.length 0 h) e
 
-  pub extent-long : x.length ≢ 0 → 256 < x.length → r ≡ failed 7 x.length → r ≡ extent_failure query w x
+  pub extent_long : x.length ≢ 0 → 256 < x.length → r ≡ failed 7 x.length → r ≡ extent_failure query w x
   unfolding extent_failure
-  extent-long h g e = rw (ne_eqb x.length 0 h, lt-ltb 256 x.length g) e
+  extent_long h g e = rw (ne_eqb x.length 0 h, lt-ltb 256 x.length g) e
 
   module _ (b : Bool) (h : x.length ≢ 0) (g : x.length ≤ 256) (s : b ≡ both (query x.source x.length 1) (inside w x.source x.length)) where
-    pub extent-source : b ≡ false → r ≡ failed 3 x.source → r ≡ extent_failure query w x
+    pub extent_source : b ≡ false → r ≡ failed 3 x.source → r ≡ extent_failure query w x
     unfolding extent_failure
-    extent-source t e = rw (ne_eqb x.length 0 h, le-ltb 256 x.length g, ← s, t) e
+    extent_source t e = rw (ne_eqb x.length 0 h, le-ltb 256 x.length g, ← s, t) e
 
     module _ (d : Bool) (u : d ≡ both (query x.destination x.length 2) (inside w x.destination x.length)) (t : b ≡ true) where
-      pub extent-destination : d ≡ false → r ≡ failed 3 x.destination → r ≡ extent_failure query w x
+      pub extent_destination : d ≡ false → r ≡ failed 3 x.destination → r ≡ extent_failure query w x
       unfolding extent_failure
-      extent-destination i e = rw (ne_eqb x.length 0 h, le-ltb 256 x.length g, ← s, t, ← u, i) e
+      extent_destination i e = rw (ne_eqb x.length 0 h, le-ltb 256 x.length g, ← s, t, ← u, i) e
 
-      pub extent-good : d ≡ true → r ≡ fine → r ≡ extent_failure query w x
+      pub extent_good : d ≡ true → r ≡ fine → r ≡ extent_failure query w x
       unfolding extent_failure
-      extent-good i e = rw (ne_eqb x.length 0 h, le-ltb 256 x.length g, ← s, t, ← u, i) e
+      extent_good i e = rw (ne_eqb x.length 0 h, le-ltb 256 x.length g, ← s, t, ← u, i) e
 
 -- an extent in which nothing fails can be copied
 pub fine_fits : (query : ℕ → ℕ → ℕ → Bool) (w : Window) (x : Extent) → (extent_failure query w x).code ≡ 0 → fits w x ≡ true
@@ -95,9 +95,9 @@ module _ (f : Extent → Failure) (clean : (x : Extent) → (f x).code ≡ 0 →
       by true e h = h
       by false e h = rw e
 
-  pub first-none : (r : Failure) (xs : List Extent) → r ≡ fine → r ≡ first_failure f (take 0 xs)
+  pub first_none : (r : Failure) (xs : List Extent) → r ≡ fine → r ≡ first_failure f (take 0 xs)
   unfolding first_failure
-  first-none r xs e = e
+  first_none r xs e = e
 
   pub first_more : (xs : List Extent) (k : ℕ) (r y z : Failure) → k < length xs → r ≡ first_failure f (take k xs) → y ≡ f (get_or xs k no_extent)
       → z ≡ or_else r y → z ≡ first_failure f (take (k + 1) xs)
@@ -105,11 +105,11 @@ module _ (f : Extent → Failure) (clean : (x : Extent) → (f x).code ≡ 0 →
       i ∙ rw (e, g) (sym (ap (first_failure f) (rw add-one (take-suc xs k no_extent h)) ∙ first_append (take k xs) (get_or xs k no_extent)))
 
   -- where none fails, each is fine
-  pub first-each : (xs : List Extent) (n k : ℕ) → (first_failure f (take n xs)).code ≡ 0 → k < n → k < length xs → (f (get_or xs k no_extent)).code ≡ 0
+  pub first_each : (xs : List Extent) (n k : ℕ) → (first_failure f (take n xs)).code ≡ 0 → k < n → k < length xs → (f (get_or xs k no_extent)).code ≡ 0
   unfolding first_failure
-  first-each [] n k e h i = absurd (omega arith)
-  first-each (x ∷ xs) zero k e h i = absurd (omega arith)
-  first-each (x ∷ xs) (suc n) k e h i = by (eqb (f x).code 0) refl (λ k. first-each xs n k) e k h i
+  first_each [] n k e h i = absurd (omega arith)
+  first_each (x ∷ xs) zero k e h i = absurd (omega arith)
+  first_each (x ∷ xs) (suc n) k e h i = by (eqb (f x).code 0) refl (λ k. first_each xs n k) e k h i
     where
       by : (b : Bool) → eqb (f x).code 0 ≡ b → ((k : ℕ) → (first_failure f (take n xs)).code ≡ 0 → k < n → k < length xs → (f (get_or xs k no_extent)).code ≡ 0)
           → (pick b (first_failure f (take n xs)) (f x)).code ≡ 0 → (k : ℕ) → k < suc n → k < suc (length xs) → (f (get_or (x ∷ xs) k no_extent)).code ≡ 0

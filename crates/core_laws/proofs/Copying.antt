@@ -14,7 +14,7 @@ use Rattle.copies.specs.Failing.{copy_failure, may}
 use Rattle.rig_core.specs.Events.{failure_of}
 use Rattle.rig_core.specs.Sound.{Sound}
 use Rattle.rig_core.specs.declared.Core.{Core}
-use Rattle.core_laws.proofs.Facts.{running-below}
+use Rattle.core_laws.proofs.Facts.{running_below}
 use Rattle.window.specs.declared.Pieces.{Pieces}
 use Rattle.window.specs.declared.Window.{Window}
 
@@ -26,4 +26,4 @@ query_same g l v h way y a n = rw (legal_of g l, lt-ltb v g.count h, y, le-leb g
 pub copy_asks : (c : Core) → length c.vms ≡ 8 → Sound c → (c.running ≡ nobody → ⊥) → (w : Window) (p : Pieces) → failure_of c w p ≡ copy_failure (access c.config c.running) w p
 copy_asks c n s h w p =
     failure_same (may c.config.regions c.running) (access c.config c.running)
-    (query_same c.config s.legal c.running (running-below c n s h) 1 refl) (query_same c.config s.legal c.running (running-below c n s h) 2 refl) w p
+    (query_same c.config s.legal c.running (running_below c n s h) 1 refl) (query_same c.config s.legal c.running (running_below c n s h) 2 refl) w p

@@ -9,7 +9,7 @@ use mathlib.Core.Path.{refl, sym, ◌∙◌, ◌≡◌}
 use native.Mathlib.Decide.{dec_lt, ℕ_discrete}
 use native.Mathlib.Omega.{arith}
 use Rattle.basis.proofs.Bounds.{within_is, within_of}
-use Rattle.basis.proofs.Laws.{both_left, both_of, both_right, either_is, either_left, either_right, every-is, every_of, false_true}
+use Rattle.basis.proofs.Laws.{both_left, both_of, both_right, either_is, either_left, either_right, every_is, every_of, false_true}
 use Rattle.basis.specs.Choice.{either}
 use Rattle.basis.specs.Nobody.{nobody}
 use Rattle.config.proofs.Legality.{legal_is, legal_of}
@@ -128,7 +128,7 @@ unfolding none_ready
 unstarted_is c e =
     let e1 = both_right (none_ready c) _ e in
     let e2 = both_right (eqb c.queue.len 0) _ e1 in (
-      λ k h. not-true (ready_at c k) (every-is _ 8 (both_left (none_ready c) _ e) k h),
+      λ k h. not-true (ready_at c k) (every_is _ 8 (both_left (none_ready c) _ e) k h),
       eqb-true c.queue.len 0 (both_left (eqb c.queue.len 0) _ e1),
       eqb-true c.running nobody (both_left (idle c) _ e2),
       not-true (has_ticked c.clock) (both_right (idle c) _ e2),
@@ -150,10 +150,10 @@ sound_is c e =
     let n = both_right (leb c.clock.started 1) _ t.numbers in
     record {
       legal = legal_is c.config t.legal;
-      rest = λ k h l. fresh_is (vm_at c k) (unless_is (ltb k c.config.count) _ (every-is _ 8 t.rest k l) (le-ltb k c.config.count h));
+      rest = λ k h l. fresh_is (vm_at c k) (unless_is (ltb k c.config.count) _ (every_is _ 8 t.rest k l) (le-ltb k c.config.count h));
       few = leb-true c.queue.len c.config.room t.few;
-      queued = every-is _ c.queue.len t.queued;
-      padded = λ k h l. eqb-true (get_or c.queue.items k 0) 0 (unless_is (ltb k c.queue.len) _ (every-is _ 16 t.padded k l) (le-ltb k c.queue.len h));
+      queued = every_is _ c.queue.len t.queued;
+      padded = λ k h l. eqb-true (get_or c.queue.items k 0) 0 (unless_is (ltb k c.queue.len) _ (every_is _ 16 t.padded k l) (le-ltb k c.queue.len h));
       first = λ h. eqb-true c.running nobody (unless_is (has_ticked c.clock) _ t.first h);
       unstarted = λ h. unstarted_is c (unless_is (is_started c.clock) _ t.begun h);
       slot = λ h. ltb-true c.clock.slot c.config.slots (where_is (has_ticked c.clock) _ t.slot h);
@@ -161,7 +161,7 @@ sound_is c e =
       ready = λ h. unless_is (idle c) _ t.ready (ne_eqb c.running nobody h);
       named = λ h. named_is (owner_now c) c.running (unless_is (idle c) _ t.named (ne_eqb c.running nobody h));
       flags = (leb-true c.clock.started 1 (both_left (leb c.clock.started 1) _ t.numbers), leb-true c.clock.ticked 1 (both_left (leb c.clock.ticked 1) _ n));
-      standings = λ k h. leb-true (vm_at c k).standing last_standing (every-is _ 8 (both_right (leb c.clock.ticked 1) _ n) k h);
+      standings = λ k h. leb-true (vm_at c k).standing last_standing (every_is _ 8 (both_right (leb c.clock.ticked 1) _ n) k h);
       counted = counted_is c.queue t.counted;
     }
 
@@ -203,101 +203,101 @@ module _ (c : Core) (s : Sound c) where
   pub room_most : c.config.room ≤ 16
   room_most = s.legal.queue
 
-  pub len-most : c.queue.len ≤ 16
-  len-most = let a = s.few in let b = s.legal.queue in omega arith
+  pub len_most : c.queue.len ≤ 16
+  len_most = let a = s.few in let b = s.legal.queue in omega arith
 
   -- W5: the places past the entries
-  pub queue-padded : padded_of c.queue ≡ true
+  pub queue_padded : padded_of c.queue ≡ true
   unfolding padded_of
-  queue-padded = every_of _ 16 (λ k h. unless_of (ltb k c.queue.len) _ (λ l. eq-eqb (get_or c.queue.items k 0) 0 (s.padded k (ltb-false k c.queue.len l) h)))
+  queue_padded = every_of _ 16 (λ k h. unless_of (ltb k c.queue.len) _ (λ l. eq-eqb (get_or c.queue.items k 0) 0 (s.padded k (ltb-false k c.queue.len l) h)))
 
   -- W12: a flag that is not 1 is 0
-  pub started-not : is_started c.clock ≡ false → c.clock.started ≡ 0
-  started-not h = let n = eqb-false c.clock.started 1 h in let f = s.flags.0 in omega arith
+  pub started_not : is_started c.clock ≡ false → c.clock.started ≡ 0
+  started_not h = let n = eqb-false c.clock.started 1 h in let f = s.flags.0 in omega arith
 
-  pub ticked-not : has_ticked c.clock ≡ false → c.clock.ticked ≡ 0
-  ticked-not h = let n = eqb-false c.clock.ticked 1 h in let f = s.flags.1 in omega arith
+  pub ticked_not : has_ticked c.clock ≡ false → c.clock.ticked ≡ 0
+  ticked_not h = let n = eqb-false c.clock.ticked 1 h in let f = s.flags.1 in omega arith
 
   -- W6, W7: where a VM runs the core has ticked, and where it has ticked it is started
-  pub ticked-started : has_ticked c.clock ≡ true → is_started c.clock ≡ true
-  ticked-started h = go (is_started c.clock) refl
+  pub ticked_started : has_ticked c.clock ≡ true → is_started c.clock ≡ true
+  ticked_started h = go (is_started c.clock) refl
     where
       go : (b : Bool) → is_started c.clock ≡ b → b ≡ true
       go true f = refl
       go false f = false_true (sym (s.unstarted f).3 ∙ h)
 
-  pub runs-ticked : (c.running ≡ nobody → ⊥) → has_ticked c.clock ≡ true
-  runs-ticked h = go (has_ticked c.clock) refl
+  pub runs_ticked : (c.running ≡ nobody → ⊥) → has_ticked c.clock ≡ true
+  runs_ticked h = go (has_ticked c.clock) refl
     where
       go : (b : Bool) → has_ticked c.clock ≡ b → b ≡ true
       go true f = refl
       go false f = absurd (h (s.first f))
 
-  pub runs-started : (c.running ≡ nobody → ⊥) → is_started c.clock ≡ true
-  runs-started h = ticked-started (runs-ticked h)
+  pub runs_started : (c.running ≡ nobody → ⊥) → is_started c.clock ≡ true
+  runs_started h = ticked_started (runs_ticked h)
 
 module _ (c : Core) (n : length c.vms ≡ 8) (s : Sound c) where
   -- W2: records past the VM count are fresh, and there is none past the eighth
-  pub past-fresh : (k : ℕ) → c.config.count ≤ k → vm_at c k ≡ fresh
-  past-fresh k h =
+  pub past_fresh : (k : ℕ) → c.config.count ≤ k → vm_at c k ≡ fresh
+  past_fresh k h =
       elim (dec_lt k 8) [
         | yes l ↦ s.rest k h l
         | no l ↦ (let g : length c.vms ≤ k = omega arith in get_or-eq_default c.vms fresh g)
       ]
 
   -- so a VM that is ready is one of the configuration
-  pub ready-below : (v : ℕ) → ready_at c v ≡ true → v < c.config.count
-  ready-below v r =
+  pub ready_below : (v : ℕ) → ready_at c v ≡ true → v < c.config.count
+  ready_below v r =
       elim (dec_lt v c.config.count) [
         | yes l ↦ l
-        | no l ↦ (let h : c.config.count ≤ v = omega arith in false_true (rw (past-fresh v h) at r))
+        | no l ↦ (let h : c.config.count ≤ v = omega arith in false_true (rw (past_fresh v h) at r))
       ]
 
   -- the VM that runs is one of the configuration
-  pub running-below : (c.running ≡ nobody → ⊥) → c.running < c.config.count
-  running-below h = ready-below c.running (s.ready h)
+  pub running_below : (c.running ≡ nobody → ⊥) → c.running < c.config.count
+  running_below h = ready_below c.running (s.ready h)
 
-  pub running-who : (c.running ≡ nobody) ⊎ (c.running < c.config.count)
-  running-who =
+  pub running_who : (c.running ≡ nobody) ⊎ (c.running < c.config.count)
+  running_who =
       elim (ℕ_discrete c.running nobody) [
         | yes e ↦ inl e
-        | no e ↦ inr (running-below e)
+        | no e ↦ inr (running_below e)
       ]
 
   -- T3, W12: every standing is known, past the eight records too
-  pub standing-most : (k : ℕ) → (vm_at c k).standing ≤ last_standing
-  standing-most k =
+  pub standing_most : (k : ℕ) → (vm_at c k).standing ≤ last_standing
+  standing_most k =
       elim (dec_lt k 8) [
         | yes l ↦ s.standings k l
         | no l ↦ (let g : length c.vms ≤ k = omega arith in rw (get_or-eq_default c.vms fresh g) (omega arith))
       ]
 
   -- nobody is no VM
-  pub nobody-unready : ready_at c nobody ≡ false
-  nobody-unready = (let m = count_most c s in let g : length c.vms ≤ nobody = omega arith in rw (get_or-eq_default c.vms fresh g))
+  pub nobody_unready : ready_at c nobody ≡ false
+  nobody_unready = (let m = count_most c s in let g : length c.vms ≤ nobody = omega arith in rw (get_or-eq_default c.vms fresh g))
 
 module _ (c : Core) (p : Shaped c) (s : Sound c) where
-  pub queue-is-entries : c.queue ≡ holding (entries c.queue) c.queue.counts
-  queue-is-entries = of_entries c.queue p.places.items (len-most c s) (queue-padded c s)
+  pub queue_is_entries : c.queue ≡ holding (entries c.queue) c.queue.counts
+  queue_is_entries = of_entries c.queue p.places.items (len_most c s) (queue_padded c s)
 
-  pub entries-len : length (entries c.queue) ≡ c.queue.len
-  entries-len = entries_length c.queue p.places.items (len-most c s)
+  pub entries_len : length (entries c.queue) ≡ c.queue.len
+  entries_len = entries_length c.queue p.places.items (len_most c s)
 
   -- W4: each entry names a VM that is ready, so one of the configuration
-  pub entries-ready : All (λ x. ready_at c x ≡ true) (entries c.queue)
-  entries-ready =
+  pub entries_ready : All (λ x. ready_at c x ≡ true) (entries c.queue)
+  entries_ready =
       all_of _ (entries c.queue)
-      (λ k h. (let l : k < c.queue.len = omega (arith, entries-len) in rw (take_at_in c.queue.len c.queue.items k l) (s.queued k l)))
+      (λ k h. (let l : k < c.queue.len = omega (arith, entries_len) in rw (take_at_in c.queue.len c.queue.items k l) (s.queued k l)))
 
   pub entries_below : All (λ x. x < c.config.count) (entries c.queue)
-  entries_below = all_map _ _ (λ x r. ready-below c p.records s x r) (entries c.queue) entries-ready
+  entries_below = all_map _ _ (λ x r. ready_below c p.records s x r) (entries c.queue) entries_ready
 
   -- W13: a number past the VM count has no entry, so its count is 0
-  pub past-uncounted : (v : ℕ) → c.config.count ≤ v → v < 8 → get_or c.queue.counts v 0 ≡ 0
-  past-uncounted v h i = s.counted v i ∙ entries_none v (entries c.queue) (all_map _ _ (λ x l. omega arith) (entries c.queue) entries_below)
+  pub past_uncounted : (v : ℕ) → c.config.count ≤ v → v < 8 → get_or c.queue.counts v 0 ≡ 0
+  past_uncounted v h i = s.counted v i ∙ entries_none v (entries c.queue) (all_map _ _ (λ x l. omega arith) (entries c.queue) entries_below)
 
   -- W7, W13: before Start all counts are 0
-  pub unstarted-uncounted : is_started c.clock ≡ false → (v : ℕ) → v < 8 → get_or c.queue.counts v 0 ≡ 0
-  unstarted-uncounted h v i =
-      let z : entries_of v (entries c.queue) ≡ 0 = omega (arith, entries_few v (entries c.queue), entries-len, (s.unstarted h).1) in
+  pub unstarted_uncounted : is_started c.clock ≡ false → (v : ℕ) → v < 8 → get_or c.queue.counts v 0 ≡ 0
+  unstarted_uncounted h v i =
+      let z : entries_of v (entries c.queue) ≡ 0 = omega (arith, entries_few v (entries c.queue), entries_len, (s.unstarted h).1) in
       s.counted v i ∙ z

@@ -15,7 +15,7 @@ use Rattle.rig_core.specs.Events.{done, failure_of, start_core, step_of, tick_cl
 use Rattle.rig_core.specs.State.{Shaped, fresh_core, full, with_clock, with_queue, with_running, with_vms}
 use Rattle.rig_core.specs.declared.Core.{Core}
 use Rattle.core_laws.proofs.Refused.{refused_core}
-use Rattle.core_laws.proofs.View.{call-case, copy_case, done_case, step_case}
+use Rattle.core_laws.proofs.View.{call_case, copy_case, done_case, step_case}
 use Rattle.event.specs.Kinds.{is_start, is_tick}
 use Rattle.event.specs.declared.Event.TheVariants.{Call, Copy, Extra, Fault, Restart, Shutdown, Start, Stop, Tick, Write}
 use Rattle.event.specs.declared.Event.{Event}
@@ -27,7 +27,7 @@ use Rattle.queue.specs.declared.Queue.{Queue}
 use Rattle.table.proofs.Moves.{SamePlace, same_place}
 use Rattle.table.specs.Position.{next_clock}
 use Rattle.table.specs.declared.Clock.{Clock}
-use Rattle.vms.proofs.Laws.{each-length}
+use Rattle.vms.proofs.Laws.{each_length}
 use Rattle.vms.proofs.Records.{turn_length}
 
 -- ---- the configuration
@@ -98,7 +98,7 @@ tick_places c s =
 
 pub shaped_done : (c : Core) → Shaped c → (e : Event) → Shaped (done c e).core
 unfolding done start_core tick_turn
-shaped_done c s Start = reshaped c s _ c.running c.queue _ (each-length (λ k v. started_at (get_or c.config.entries k 0)) c.vms c.config.count ∙ s.records) s.places
+shaped_done c s Start = reshaped c s _ c.running c.queue _ (each_length (λ k v. started_at (get_or c.config.entries k 0)) c.vms c.config.count ∙ s.records) s.places
 shaped_done c s (Tick at) =
     reshaped c s (tick_clock c) _ (tick_queue c) _
     (turn_length c.running at c.config.count (tick_owner c) (front_of (entries c.queue)) (tick_clock c).left c.config.handlers c.vms ∙ s.records)
@@ -109,7 +109,7 @@ shaped_done c s (Restart v) = shaped_replaced c s _ _ _ _ (without_places c s v)
 shaped_done c s (Extra v) = shaped_replaced c s _ _ _ _ (places_pushed v c.queue s.places)
 shaped_done c s (Call service argument next) =
     shaped_replaced c s _ _ _ _
-    (call-case (λ (d : Change). Places d.queue) c.running c.queue (full c) _ c.running service argument _
+    (call_case (λ (d : Change). Places d.queue) c.running c.queue (full c) _ c.running service argument _
     (λ h. s.places) (λ h. s.places) (λ h l. s.places) (λ h l. without_places c s c.running) (λ h. without_places c s c.running)
     (λ h l. s.places) (λ h l. places_pushed c.running c.queue s.places) (λ h. without_places c s c.running))
 shaped_done c s (Write o x) = shaped_replaced c s _ _ _ _ s.places

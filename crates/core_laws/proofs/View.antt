@@ -268,7 +268,7 @@ over_one : (k n : ℕ) → k ≤ n → (n ≡ k → ⊥) → k + 1 ≤ n
 over_one k n h i = omega arith
 
 module _ (P : Change → Type 0) (running : ℕ) (queue : Queue) (noRoom : Bool) (handler v service argument : ℕ) (vm : Vm) where
-  pub call-case :
+  pub call_case :
       (service ≡ 0 → P (delivering_from running queue v (deliver handler vm)))
       → (service ≡ 1 → P (delivering_from running queue v (deliver handler (back_from vm))))
       → (service ≡ 2 → argument ≤ 31 → P (delivering_from running queue v (deliver handler (pend argument vm))))
@@ -279,7 +279,7 @@ module _ (P : Change → Type 0) (running : ℕ) (queue : Queue) (noRoom : Bool)
       → (4 < service → P (failing_from running queue v vm 1 service))
       → P (called_from running queue noRoom handler v service argument vm)
   unfolding called_from
-  call-case p0 p1 p2 p2f p3 p4f p4 p5 =
+  call_case p0 p1 p2 p2f p3 p4f p4 p5 =
       pick_case P (eqb service 0) _ _ (λ h. p0 (eqb-true service 0 h))
       (λ h0. pick_case P (eqb service 1) _ _ (λ h. p1 (eqb-true service 1 h))
       (λ h1. pick_case P (eqb service 2) _ _

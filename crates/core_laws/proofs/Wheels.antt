@@ -11,7 +11,7 @@ use mathlib.Core.Path.{ap, refl, ◌∙◌, ◌≡◌}
 use native.Mathlib.Omega.{arith}
 use Rattle.basis.proofs.Laws.{both_right}
 use Rattle.basis.specs.Choice.{pick}
-use Rattle.copies.proofs.Requests.{request-fits}
+use Rattle.copies.proofs.Requests.{request_fits}
 use Rattle.copies.specs.Failing.{may}
 use Rattle.rig_core.specs.Events.{failure_of}
 use Rattle.rig_core.specs.Memory.{copied_by, copies, copy_in, memory_after, memory_as}
@@ -49,7 +49,7 @@ module _ (c : Core) (p : Pieces) (base : ℕ) (m : List ℕ) where
   used_fit : copies c (window_of base m) p ≡ true → (p.count ≤ 8) × all_fit base (take p.count (extents p)) m
   used_fit h =
       let z = eqb-true (failure_of c (window_of base m) p).code 0 (both_right (eqb (refusal_of c (copy_in p base m)) 0) _ h) in
-      let f = request-fits (may c.config.regions c.running) (window_of base m) p z in (
+      let f = request_fits (may c.config.regions c.running) (window_of base m) p z in (
         f.0,
         λ k l. (let low : k < p.count = omega (arith, length-take p.count (extents p)) in
             rw (get_or-take p.count (extents p) k no_extent low) (f.1 k low)),
@@ -65,9 +65,9 @@ module _ (c : Core) (p : Pieces) (base : ℕ) (m : List ℕ) where
       ∙ ap (λ (x : Extent). get_or m (source_of base x i) 0) same)
 
   -- C11: where no extent touches what a later one reads or writes, as with four wheels, every destination is new or no byte is
-  pub no-two-old-wheels : Apart (take p.count (extents p)) → (memory_after c (copy_in p base m) m ≡ m) ⊎ AllNew c p base m
+  pub no_two_old_wheels : Apart (take p.count (extents p)) → (memory_after c (copy_in p base m) m ≡ m) ⊎ AllNew c p base m
   unfolding memory_as
-  no-two-old-wheels a = go (copies c (window_of base m) p) refl
+  no_two_old_wheels a = go (copies c (window_of base m) p) refl
     where
       go : (b : Bool) → copies c (window_of base m) p ≡ b → (memory_after c (copy_in p base m) m ≡ m) ⊎ AllNew c p base m
       go true h = inr (copied_new a h)

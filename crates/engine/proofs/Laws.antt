@@ -75,8 +75,8 @@ module _ (g : Config) (standings words : List ℕ) (p : Stand) (e : Event) (i n 
         same = rw h (inner_refused (core_of g standings words p) e n (left_by g standings words (refused_at standings words p n)) row_here z (rw (ne_eqb n 1 (λ (o : n ≡ 1). not_1 (core_of g standings words p) e (sym row_here ∙ o)))));
       }
 
-  pub moves-by : (standings' words' : List ℕ) (v : Event) → n ≡ 0 → e ≡ v → Does g standings words standings' words' p v m → Moves g standings words standings' words' p e m
-  moves-by standings' words' v z h w =
+  pub moves_by : (standings' words' : List ℕ) (v : Event) → n ≡ 0 → e ≡ v → Does g standings words standings' words' p v m → Moves g standings words standings' words' p e m
+  moves_by standings' words' v z h w =
       record { same = inner_done (core_of g standings words p) e n (left_by g standings' words' m) row_here z (rw h w.same) }
 
 -- ---- a change of one VM

@@ -7,7 +7,7 @@ use mathlib.Core.Logic.{inl, inr, ⊎_elim}
 use mathlib.Core.Path.{refl, ◌≡◌}
 use native.Mathlib.Decide.{ℕ_discrete}
 use native.Mathlib.Omega.{arith}
-use Rattle.basis.proofs.Laws.{both_left, both_of, both_right, either_is, either_left, either_right, every-is, every_of, some_is, some_of}
+use Rattle.basis.proofs.Laws.{both_left, both_of, both_right, either_is, either_left, either_right, every_is, every_of, some_is, some_of}
 use Rattle.basis.specs.Choice.{both, either, pick}
 use Rattle.basis.specs.Count.{every}
 use Rattle.grants.specs.Access.{Allowed, Granted, Permits, allowed, allows, granted, granted_all, grants, permits}
@@ -67,7 +67,7 @@ allowed_is r v address length way e =
     each : every (λ i. granted r v way (address + i)) length ≡ true → (a : ℕ) → address ≤ a → a < address + length → Granted r v way a
     each h a m l =
         let j : address + (a - address) ≡ a = omega arith in
-        granted_is r v way a (rw j at (every-is (λ i. granted r v way (address + i)) length h (a - address) (omega arith)))
+        granted_is r v way a (rw j at (every_is (λ i. granted r v way (address + i)) length h (a - address) (omega arith)))
 
 pub allowed_of : (r : Regions) (v address length way : ℕ) → Allowed r v address length way → allowed r v address length way ≡ true
 unfolding allowed granted_all

@@ -6,7 +6,7 @@ use mathlib.Core.Bool.{Bool, false, true}
 use mathlib.Core.Path.{refl, sym, ◌∙◌, ◌≡◌}
 use native.Mathlib.Decide.{dec_lt}
 use native.Mathlib.Omega.{arith}
-use Rattle.basis.proofs.Laws.{both_left, both_of, both_right, every-miss, every_of, some_of}
+use Rattle.basis.proofs.Laws.{both_left, both_of, both_right, every_miss, every_of, some_of}
 use Rattle.basis.specs.Count.{some, up_to}
 use Rattle.grants.specs.Access.{allowed, allows, granted, granted_all, grants, permits}
 use Rattle.grants.specs.Cover.{reach}
@@ -57,9 +57,9 @@ module _ (r : Regions) (v way : ℕ) where
           let i = bounds (holder_at r k) (permission_at r k) (start_at r k) (last_at r k) v way a g in
           (omega arith, λ b m n. some_of (grants r v way b) r.count k l (within (holder_at r k) (permission_at r k) (start_at r k) (last_at r k) v way a b g m (omega arith)))
 
-  pub reach-none : (a next : ℕ) → next ≡ reach r v way a r.count → next ≡ 0 → granted r v way a ≡ false
+  pub reach_none : (a next : ℕ) → next ≡ reach r v way a r.count → next ≡ 0 → granted r v way a ≡ false
   unfolding granted
-  reach-none a next e z = go (reach_is a r.count)
+  reach_none a next e z = go (reach_is a r.count)
     where
       go : Reach a r.count → granted r v way a ≡ false
       go (stuck x y) = y
@@ -79,15 +79,15 @@ module _ (r : Regions) (v way : ℕ) where
         | no m ↦ (reach_far at next e z).1 a (omega arith) l
       ]
 
-  pub walk-miss : (from at end next : ℕ) → from ≤ at → at < end → next ≡ reach r v way at r.count → next ≡ 0 → false ≡ granted_all r v way from (end - from)
+  pub walk_miss : (from at end next : ℕ) → from ≤ at → at < end → next ≡ reach r v way at r.count → next ≡ 0 → false ≡ granted_all r v way from (end - from)
   unfolding granted_all
-  walk-miss from at end next h l e z =
+  walk_miss from at end next h l e z =
       let i : from + (at - from) ≡ at = omega arith in
-      every-miss _ (end - from) (at - from) (omega arith) (rw i (reach-none at next e z))
+      every_miss _ (end - from) (at - from) (omega arith) (rw i (reach_none at next e z))
 
-  pub walk-done : (from at end : ℕ) → from ≤ end → end ≤ at → Walked from at → true ≡ granted_all r v way from (end - from)
+  pub walk_done : (from at end : ℕ) → from ≤ end → end ≤ at → Walked from at → true ≡ granted_all r v way from (end - from)
   unfolding granted_all
-  walk-done from at end h l w = sym (every_of _ (end - from) (λ i m. w (from + i) (omega arith) (omega arith)))
+  walk_done from at end h l w = sym (every_of _ (end - from) (λ i m. w (from + i) (omega arith) (omega arith)))
 
 -- H10, after the test for no bytes
 pub allowed_none : (r : Regions) (v address length way : ℕ) (b : Bool) → length ≡ 0 → b ≡ true → b ≡ allowed r v address length way

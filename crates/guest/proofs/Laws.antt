@@ -71,10 +71,10 @@ power_is n l = shl_exact {a = 1} 1 n 32 (omega arith) (omega arith) ∙ omega ar
 -- ---- the highest
 
 module _ (p : ℕ → Bool) where
-  pub highest-none : (n : ℕ) → ((k : ℕ) → k < n → p k ≡ false) → highest p n ≡ Nothing
+  pub highest_none : (n : ℕ) → ((k : ℕ) → k < n → p k ≡ false) → highest p n ≡ Nothing
   unfolding highest
-  highest-none zero h = refl
-  highest-none (suc n) h = rw (h n (omega arith)) (highest-none n (λ k l. h k (omega arith)))
+  highest_none zero h = refl
+  highest_none (suc n) h = rw (h n (omega arith)) (highest_none n (λ k l. h k (omega arith)))
 
   -- what the answer tells
   pub none_is : (n : ℕ) → highest p n ≡ Nothing → (k : ℕ) → k < n → p k ≡ false
@@ -90,10 +90,10 @@ module _ (p : ℕ → Bool) where
             | no i ↦ (let q : k ≡ n = omega arith in rw q f)
           ]
 
-  pub at-is : (n j : ℕ) → highest p n ≡ At j → (j < n) × (p j ≡ true) × ((k : ℕ) → j < k → k < n → p k ≡ false)
+  pub at_is : (n j : ℕ) → highest p n ≡ At j → (j < n) × (p j ≡ true) × ((k : ℕ) → j < k → k < n → p k ≡ false)
   unfolding highest
-  at-is zero j e = let z : ◌≡◌ {A = ℕ} 0 1 = cc in absurd (omega arith)
-  at-is (suc n) j e = go (p n) refl e (at-is n j)
+  at_is zero j e = let z : ◌≡◌ {A = ℕ} 0 1 = cc in absurd (omega arith)
+  at_is (suc n) j e = go (p n) refl e (at_is n j)
     where
       go : (b : Bool) → p n ≡ b → pick b (At n) (highest p n) ≡ At j
           → (highest p n ≡ At j → (j < n) × (p j ≡ true) × ((k : ℕ) → j < k → k < n → p k ≡ false))
@@ -119,7 +119,7 @@ in_both s n = both (bit n s.pending) (bit n s.enabled)
 -- D11: the number is below 32, pending and enabled, and no higher one is
 pub due_is : (s : Status) (n : ℕ) → due s ≡ At n → (n < 32) × (in_both s n ≡ true) × ((k : ℕ) → n < k → k < 32 → in_both s k ≡ false)
 unfolding due
-due_is s n e = at-is _ 32 n e
+due_is s n e = at_is _ 32 n e
 
 -- D11: none is
 pub due_nothing : (s : Status) → due s ≡ Nothing → (k : ℕ) → k < 32 → in_both s k ≡ false
@@ -128,7 +128,7 @@ due_nothing s e = none_is _ 32 e
 
 pub due_none : (s : Status) → bit_and s.pending s.enabled ≡ 0 → Nothing ≡ due s
 unfolding due
-due_none s e = sym (highest-none _ 32 (λ k l. sym (bit_and_lem k s.pending s.enabled) ∙ ap (bit k) e ∙ bit_zero k))
+due_none s e = sym (highest_none _ 32 (λ k l. sym (bit_and_lem k s.pending s.enabled) ∙ ap (bit k) e ∙ bit_zero k))
 
 pub due_few : (s : Status) (n : ℕ) → At n ≡ due s → n < 32
 due_few s n e = (due_is s n (sym e)).0

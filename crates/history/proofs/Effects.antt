@@ -51,9 +51,9 @@ module _ (P : ℕ → Effect → Type 0) (v n result : ℕ)
 
 module _ (g : Config) (m : Moment) where
   -- only a spare tick takes an entry
-  pub spare-is : spare g m ≡ is_take (effect g m)
+  pub spare_is : spare g m ≡ is_take (effect g m)
   unfolding naming effect
-  spare-is = go (went m) m.event
+  spare_is = go (went m) m.event
     where
       tick : (b : Bool) → b ≡ is_take (pick b Take Keep)
       tick true = refl
@@ -85,9 +85,9 @@ module _ (g : Config) (m : Moment) where
       go true (Copy p w) = copied (tells_error m.answer)
 
   -- only an accepted request adds one
-  pub asks-is : (v : ℕ) → asks v m ≡ is_add v (effect g m)
+  pub asks_is : (v : ℕ) → asks v m ≡ is_add v (effect g m)
   unfolding asks effect
-  asks-is v = go (went m) m.event
+  asks_is v = go (went m) m.event
     where
       tick : (b : Bool) → false ≡ is_add v (pick b Take Keep)
       tick true = refl
@@ -121,9 +121,9 @@ module _ (g : Config) (m : Moment) where
       go true (Copy p w) = copied (tells_error m.answer)
 
   -- the entries of a VM leave where it ends or is restarted, and nowhere else
-  pub removes-is : (v : ℕ) → removes g v m ≡ ends v m
+  pub removes_is : (v : ℕ) → removes g v m ≡ ends v m
   unfolding effect ends
-  removes-is v = go (went m) m.event
+  removes_is v = go (went m) m.event
     where
       tick : (b : Bool) → is_remove v (pick b Take Keep) ≡ false
       tick true = refl

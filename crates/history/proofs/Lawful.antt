@@ -17,17 +17,17 @@ use Rattle.rig_core.specs.Refusals.{refused, row_of}
 use Rattle.rig_core.specs.State.{full, vm_at}
 use Rattle.rig_core.specs.declared.Core.{Core}
 use Rattle.rig_core.specs.declared.Stepped.{Stepped}
-use Rattle.core_laws.proofs.View.{call-case, copy_case, row_extra, step_case}
+use Rattle.core_laws.proofs.View.{call_case, copy_case, row_extra, step_case}
 use Rattle.event.specs.declared.Event.TheVariants.{Call, Copy, Extra, Fault, Restart, Shutdown, Start, Stop, Tick, Write}
 use Rattle.event.specs.declared.Event.{Event}
 use Rattle.guest.specs.Record.{saved_at}
-use Rattle.history.proofs.Steps.{Reached, tick-owner}
+use Rattle.history.proofs.Steps.{Reached, tick_owner_lem}
 use Rattle.history.specs.History.{Moment, moment, moment_of, ticking}
 use Rattle.history.specs.Queueing.{affected, effect, removed_from}
 use Rattle.queue.proofs.Meaning.{entries_popped, entries_pushed, entries_without}
 use Rattle.queue.specs.Entries.{entries, front_of, others}
 use Rattle.table.specs.Place.{table_at}
-use Rattle.vms.proofs.Records.{turn-who}
+use Rattle.vms.proofs.Records.{turn_who}
 use Rattle.vms.specs.Tick.{runner_of}
 
 -- D6, D7, by the state before the tick
@@ -52,10 +52,10 @@ module _ (g : Config) (d : Given g) (k : ℕ) (c : Core) (p : Reached g k c) whe
 
   tick_law : (at : ℕ) → Lawful g (moment_of k c (Tick at) (done c (Tick at)))
   unfolding effect done tick_queue tick_turn
-  tick_law at = go (is_spare (table_at g k)) refl (tick-owner g d k c p)
+  tick_law at = go (is_spare (table_at g k)) refl (tick_owner_lem g d k c p)
     where
       who : tick_owner c ≡ table_at g k → (tick_turn c at).who ≡ runner_by c (table_at g k)
-      who e = turn-who c.running at c.config.count (tick_owner c) (front_of (entries c.queue)) (tick_clock c).left c.config.handlers c.vms ∙ ap (λ (o : ℕ). runner_by c o) e
+      who e = turn_who c.running at c.config.count (tick_owner c) (front_of (entries c.queue)) (tick_clock c).left c.config.handlers c.vms ∙ ap (λ (o : ℕ). runner_by c o) e
 
       go : (b : Bool) → is_spare (table_at g k) ≡ b → tick_owner c ≡ table_at g k → Lawful g (moment_of k c (Tick at) (done c (Tick at)))
       go true q e = record { queue = rw (e, q) (entries_popped c.queue); ran = λ z. who e; removed = rw q }
@@ -65,7 +65,7 @@ module _ (g : Config) (d : Given g) (k : ℕ) (c : Core) (p : Reached g k c) whe
   call_law : (s n at : ℕ) → Lawful g (moment_of k c (Call s n at) (done c (Call s n at)))
   unfolding effect done
   call_law s n at =
-      call-case P c.running c.queue (full c) (handler_at c.config c.running) c.running s n (saved_at at (vm_at c c.running))
+      call_case P c.running c.queue (full c) (handler_at c.config c.running) c.running s n (saved_at at (vm_at c c.running))
       (λ h. record { queue = rw h; ran = λ z. false_true z; removed = rw h })
       (λ h. record { queue = rw h; ran = λ z. false_true z; removed = rw h })
       (λ h i. (let l = le-leb n 31 i in record { queue = rw (h, l); ran = λ z. false_true z; removed = rw (h, l) }))

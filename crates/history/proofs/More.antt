@@ -32,14 +32,14 @@ told_more f a (x ∷ ms) m = told_more f (f x a) ms m
 module _ (b : Behaviour) (Inv : ℕ → Core → Type 0) (keeps : (k : ℕ) (c : Core) → Inv k c → (e : Event) → Inv (ticks_after (moment b k c e)) (b c e).core)
     (A : Type 0) (part : Core → A) (step : Moment → A → A) (law : (k : ℕ) (c : Core) → Inv k c → (e : Event) → part (b c e).core ≡ step (moment b k c e) (part c)) where
   -- is what the history tells
-  pub part-told : (es : List Event) (k : ℕ) (c : Core) (a : A) → Inv k c → part c ≡ a → part (state_after b c es) ≡ told step a (moments b k c es)
+  pub part_told : (es : List Event) (k : ℕ) (c : Core) (a : A) → Inv k c → part c ≡ a → part (state_after b c es) ≡ told step a (moments b k c es)
   unfolding state_after told moments
-  part-told [] k c a i h = h
-  part-told (e ∷ es) k c a i h = part-told es _ (b c e).core (step (moment b k c e) a) (keeps k c i e) (law k c i e ∙ ap (step (moment b k c e)) h)
+  part_told [] k c a i h = h
+  part_told (e ∷ es) k c a i h = part_told es _ (b c e).core (step (moment b k c e) a) (keeps k c i e) (law k c i e ∙ ap (step (moment b k c e)) h)
 
   -- and what holds of it at each moment holds of what is told
-  pub each-told : (P : A → Moment → Type 0) → ((k : ℕ) (c : Core) → Inv k c → (e : Event) → P (part c) (moment b k c e))
+  pub each_told : (P : A → Moment → Type 0) → ((k : ℕ) (c : Core) → Inv k c → (e : Event) → P (part c) (moment b k c e))
       → (es : List Event) (k : ℕ) (c : Core) → Inv k c → EachTold step P (part c) (moments b k c es)
   unfolding moments
-  each-told P f [] k c i = tt
-  each-told P f (e ∷ es) k c i = (f k c i e, rw (← law k c i e) (each-told P f es _ _ (keeps k c i e)))
+  each_told P f [] k c i = tt
+  each_told P f (e ∷ es) k c i = (f k c i e, rw (← law k c i e) (each_told P f es _ _ (keeps k c i e)))

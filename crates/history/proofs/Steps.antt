@@ -22,7 +22,7 @@ use Rattle.event.specs.Kinds.{is_tick}
 use Rattle.event.specs.declared.Event.TheVariants.{Start}
 use Rattle.event.specs.declared.Event.{Event}
 use Rattle.history.specs.History.{Behaviour, Each, Moment, count_after, moment, moment_of, moments, state_after, state_of, ticks_after, ticks_of}
-use Rattle.table.proofs.Place.{placed-then, stands_same}
+use Rattle.table.proofs.Place.{placed_then, stands_same}
 use Rattle.table.specs.Place.{Placed, Stands, table_at}
 use Rattle.table.specs.Position.{next_clock}
 
@@ -39,26 +39,26 @@ at_fresh g d = record { same = refl; shaped = shaped_fresh g d.sized; stands = r
 
 module _ (g : Config) (d : Given g) (k : ℕ) (c : Core) (p : Reached g k c) where
   -- where a tick takes the clock
-  pub tick-placed : Placed g k (tick_clock c)
+  pub tick_placed : Placed g k (tick_clock c)
   unfolding tick_clock
-  tick-placed =
+  tick_placed =
       subst (λ (x : Config). Placed g k (next_clock x.slots x.durations c.clock)) (sym p.same)
-      (placed-then g (legal_is g d.legal) k c.clock p.stands)
+      (placed_then g (legal_is g d.legal) k c.clock p.stands)
 
-  pub tick-owner : tick_owner c ≡ table_at g k
-  tick-owner = ap (λ (x : Config). owner_at x (tick_clock c).slot) p.same ∙ tick-placed.owner
+  pub tick_owner_lem : tick_owner c ≡ table_at g k
+  tick_owner_lem = ap (λ (x : Config). owner_at x (tick_clock c).slot) p.same ∙ tick_placed.owner
 
   stands_done : (e : Event) → Stands g (pick (is_tick e) (k + 1) k) (done c e).core.clock
   unfolding done
   stands_done =
       done_case c (λ e s. Stands g (pick (is_tick e) (k + 1) k) s.core.clock)
       (stands_same g k _ c.clock (done_place c Start refl) p.stands)
-      (λ at. rw (add-one k) tick-placed)
+      (λ at. rw (add-one k) tick_placed)
       (λ e d i j. rw i p.stands)
 
-  pub step-at : (e : Event) → Reached g (ticks_after (moment step_of k c e)) (step_of c e).core
+  pub step_at : (e : Event) → Reached g (ticks_after (moment step_of k c e)) (step_of c e).core
   unfolding refused
-  step-at e =
+  step_at e =
       step_case c e (λ (s : Stepped). Reached g (ticks_after (moment_of k c e s)) s.core)
       (λ n q h. rw (ne_eqb n 0 h) p)
       (λ s r. record {
@@ -69,10 +69,10 @@ module _ (g : Config) (d : Given g) (k : ℕ) (c : Core) (p : Reached g k c) whe
 
 -- a run of any behaviour that keeps an invariant
 module _ (b : Behaviour) (Inv : ℕ → Core → Type 0) (keeps : (k : ℕ) (c : Core) → Inv k c → (e : Event) → Inv (ticks_after (moment b k c e)) (b c e).core) where
-  pub after-inv : (es : List Event) (k : ℕ) (c : Core) → Inv k c → Inv (count_after b k c es) (state_after b c es)
+  pub after_inv : (es : List Event) (k : ℕ) (c : Core) → Inv k c → Inv (count_after b k c es) (state_after b c es)
   unfolding count_after state_after
-  after-inv [] k c i = i
-  after-inv (e ∷ es) k c i = after-inv es _ _ (keeps k c i e)
+  after_inv [] k c i = i
+  after_inv (e ∷ es) k c i = after_inv es _ _ (keeps k c i e)
 
   pub each_of : (P : Moment → Type 0) → ((k : ℕ) (c : Core) → Inv k c → (e : Event) → P (moment b k c e)) → (es : List Event) (k : ℕ) (c : Core) → Inv k c → Each P (moments b k c es)
   unfolding moments
@@ -80,4 +80,4 @@ module _ (b : Behaviour) (Inv : ℕ → Core → Type 0) (keeps : (k : ℕ) (c :
   each_of P f (e ∷ es) k c i = (f k c i e, each_of P f es _ _ (keeps k c i e))
 
 pub ours_at : (g : Config) → Given g → (es : List Event) → Reached g (ticks_of step_of g es) (state_of step_of g es)
-ours_at g d es = after-inv step_of (Reached g) (step-at g d) es 0 (fresh_core g) (at_fresh g d)
+ours_at g d es = after_inv step_of (Reached g) (step_at g d) es 0 (fresh_core g) (at_fresh g d)

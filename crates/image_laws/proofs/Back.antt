@@ -11,7 +11,7 @@ use native.Mathlib.Decide.{ℕ_discrete}
 use native.Mathlib.Omega.{arith}
 use Rattle.basis.proofs.Bounds.{within_is}
 use Rattle.basis.proofs.Digits.{bytes_drop, half_below, word_below}
-use Rattle.basis.proofs.Laws.{either_is, every-is, some_is}
+use Rattle.basis.proofs.Laws.{either_is, every_is, some_is}
 use Rattle.basis.specs.Bounds.{within}
 use Rattle.basis.specs.Choice.{pick, unless}
 use Rattle.basis.specs.Nobody.{nobody}
@@ -23,14 +23,14 @@ use Rattle.config.specs.declared.Config.{Config}
 use Rattle.image_laws.proofs.Fill.{Filled, fill_at, fill_less, fill_self, runs, zeros_at, zeros_set}
 use Rattle.image_laws.proofs.Text.{front_one, front_three, region_text, slot_text, vm_text}
 use Rattle.image_laws.proofs.Trip.{image_form, region_of, slot_of, slots_form, vm_of}
-use Rattle.image_reader.proofs.RegionTurns.{Passed, region_passed, regions-bad, regions-goes, regions-past}
-use Rattle.image_reader.proofs.Turns.{core_passed, image_bad, image_goes, slot_passed, slots-bad, slots-ends, slots-goes, vm_passed, vms-bad, vms-goes}
+use Rattle.image_reader.proofs.RegionTurns.{Passed, region_passed, regions_bad, regions_goes, regions_past}
+use Rattle.image_reader.proofs.Turns.{core_passed, image_bad, image_goes, slot_passed, slots_bad, slots_ends, slots_goes, vm_passed, vms_bad, vms_goes}
 use Rattle.image_reader.specs.Reader.{accepted, begun, read_end, read_image, read_regions, read_slots, read_vms, refused, with_regions, with_slot, with_vm}
 use Rattle.image_reader.specs.Records.{core_fault, owner_fault, region_fault, slot_fault, vm_fault}
 use Rattle.image_reader.specs.declared.Reading.{Reading}
 use Rattle.image_writer.specs.Writer.{image, region_bytes, slot_bytes, vm_bytes}
 use Rattle.regions.proofs.Steps.{Next, next_all}
-use Rattle.regions.proofs.Taken.{next-taken}
+use Rattle.regions.proofs.Taken.{next_taken}
 use Rattle.regions.specs.Beside.{with_region}
 use Rattle.regions.specs.Ranges.{RegionsSized, RegionsTyped}
 use Rattle.regions.specs.Rules.{Lawful, holder_at, last_at, none, permission_at, start_at}
@@ -177,13 +177,13 @@ unfolding read_slots
 slots_back zero bs at d c y h u e = absurd (omega (arith, fault_none 26 at c e))
 slots_back (suc m) bs at d c y h u e =
     elim (ℕ_discrete (get_or bs 0 0) 4) [
-      | yes k ↦ end_back bs at d c u (omega arith) k (sym (slots-ends m bs at d k) ∙ e)
+      | yes k ↦ end_back bs at d c u (omega arith) k (sym (slots_ends m bs at d k) ∙ e)
       | no k ↦
           elim (ℕ_discrete (slot_fault d.count d.slots bs) 0) [
             | yes z ↦
                 slot_back bs d c y u z
-                (slots_back m (drop 4 bs) (at + 4) (with_slot d (get_or bs 1 0) (half bs 2)) c (bytes_drop 4 bs y) (omega arith) (clear_more d _ _ u) (sym (slots-goes m bs at d k z) ∙ e))
-            | no z ↦ absurd (z (fault_none _ at c (sym (slots-bad m bs at d _ k refl z) ∙ e)))
+                (slots_back m (drop 4 bs) (at + 4) (with_slot d (get_or bs 1 0) (half bs 2)) c (bytes_drop 4 bs y) (omega arith) (clear_more d _ _ u) (sym (slots_goes m bs at d k z) ∙ e))
+            | no z ↦ absurd (z (fault_none _ at c (sym (slots_bad m bs at d _ k refl z) ∙ e)))
           ]
     ]
 
@@ -277,7 +277,7 @@ module _ (bs : List ℕ) (d c : Config) (r : Regions) (y : Bytes bs) (u : Unheld
 
   next_here : Next d.count b.held r.count
   next_here =
-      next-taken d.count r b.held (record { holders = holders_before.below; permissions = permissions_before.below; starts = starts_before.below; lasts = lasts_before.below })
+      next_taken d.count r b.held (record { holders = holders_before.below; permissions = permissions_before.below; starts = starts_before.below; lasts = lasts_before.below })
       (rw holder_here passed.named)
       (rw holder_here passed.few)
       (rw permission_here passed.permitted)
@@ -339,13 +339,13 @@ unfolding read_regions
 regions_back zero bs at d c r y h s u v e = absurd (omega (arith, fault_none 35 at c e))
 regions_back (suc m) bs at d c r y h s u v e =
     elim (ℕ_discrete (get_or bs 0 0) 5) [
-      | no k ↦ regions_end bs d c r v (omega arith) (slots_back 65 bs at (with_regions d r) c y (omega arith) (record { owners = u.owners; durations = u.durations; owned = u.owned; lasting = u.lasting }) (sym (regions-past m bs at d r k) ∙ e))
+      | no k ↦ regions_end bs d c r v (omega arith) (slots_back 65 bs at (with_regions d r) c y (omega arith) (record { owners = u.owners; durations = u.durations; owned = u.owned; lasting = u.lasting }) (sym (regions_past m bs at d r k) ∙ e))
       | yes k ↦
           elim (ℕ_discrete (region_fault d.count r bs) 0) [
             | yes z ↦
                 region_back bs d c r y v k z
-                (regions_back m (drop 11 bs) (at + 11) d c (with_region r (get_or bs 1 0) (get_or bs 2 0) (word bs 3) (word bs 7)) (bytes_drop 11 bs y) (omega arith) s u (unheld_more r _ _ _ _ v) (sym (regions-goes m bs at d r k z) ∙ e))
-            | no z ↦ absurd (z (fault_none _ at c (sym (regions-bad m bs at d r _ k refl z) ∙ e)))
+                (regions_back m (drop 11 bs) (at + 11) d c (with_region r (get_or bs 1 0) (get_or bs 2 0) (word bs 3) (word bs 7)) (bytes_drop 11 bs y) (omega arith) s u (unheld_more r _ _ _ _ v) (sym (regions_goes m bs at d r k z) ∙ e))
+            | no z ↦ absurd (z (fault_none _ at c (sym (regions_bad m bs at d r _ k refl z) ∙ e)))
           ]
     ]
 
@@ -457,9 +457,9 @@ vms_back (suc m) i bs at d c y h l u e =
           let j : d.count - suc m ≡ i = omega arith in
           let f = ap (λ (k : ℕ). read_vms m (drop 9 bs) (at + 9) (with_vm d k (word bs 1) (word bs 5))) (sym j) in
           vm_back bs d c i y u z (omega arith) (omega arith)
-          (vms_back m (i + 1) (drop 9 bs) (at + 9) (with_vm d i (word bs 1) (word bs 5)) c (bytes_drop 9 bs y) (omega arith) l (open_more d i _ _ u) (f ∙ sym (vms-goes m bs at d z) ∙ e))
+          (vms_back m (i + 1) (drop 9 bs) (at + 9) (with_vm d i (word bs 1) (word bs 5)) c (bytes_drop 9 bs y) (omega arith) l (open_more d i _ _ u) (f ∙ sym (vms_goes m bs at d z) ∙ e))
           )
-      | no z ↦ absurd (z (fault_none _ at c (sym (vms-bad m bs at d _ refl z) ∙ e)))
+      | no z ↦ absurd (z (fault_none _ at c (sym (vms_bad m bs at d _ refl z) ∙ e)))
     ]
 
 open_first : (n r : ℕ) → Open (begun n r) 0
@@ -487,8 +487,8 @@ module _ (bs : List ℕ) (c : Config) (y : Bytes bs) (e : read_image bs ≡ acce
       vms_back (get_or bs 1 0) 0 (drop 3 bs) 3 (begun (get_or bs 1 0) (get_or bs 2 0)) c (bytes_drop 3 bs y) (omega arith) (core_passed bs z).3 (open_first _ _) (image_goes bs refl z refl refl refl refl ∙ e)
 
   -- writing what was accepted gives the same bytes
-  pub back-bytes : image c ≡ bs
-  back-bytes =
+  pub back_bytes : image c ≡ bs
+  back_bytes =
       let w = core_passed bs (core_none bs c e) in
       let r = all_back in
       let n : c.count ≡ get_or bs 1 0 = r.tail.tail.count ∙ r.same.0 in
@@ -578,7 +578,7 @@ module _ (bs : List ℕ) (c : Config) (y : Bytes bs) (e : read_image bs ≡ acce
       let q : c.room ≡ get_or bs 2 0 = r.tail.tail.room ∙ r.same.1 in
       let fits : (k : ℕ) → k < c.slots → owner_fault c.count (owner_at c k) (duration_at c k) ≡ 0 = λ k h. r.tail.tail.fits k (omega (arith, r.same.2)) h in
       let has : (v : ℕ) → v < c.count → (k : ℕ) × (k < c.slots) × (owner_at c k ≡ v) = λ v h.
-      (let s = some_is _ c.slots (every-is _ c.count r.tail.tail.served v h) in (s.0, s.1, eqb-true (owner_at c s.0) v s.2))
+      (let s = some_is _ c.slots (every_is _ c.count r.tail.tail.served v h) in (s.0, s.1, eqb-true (owner_at c s.0) v s.2))
       in
       record {
         vms = (omega (arith, n, w.2), omega (arith, n, w.3));
@@ -593,5 +593,5 @@ module _ (bs : List ℕ) (c : Config) (y : Bytes bs) (e : read_image bs ≡ acce
         slots_empty = λ k h l. r.tail.tail.past k h;
       }
 
-  pub back-legal : legal c ≡ true
-  back-legal = legal_of c back_facts
+  pub back_legal : legal c ≡ true
+  back_legal = legal_of c back_facts

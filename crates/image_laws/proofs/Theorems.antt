@@ -13,7 +13,7 @@ use Rattle.config.proofs.Legality.{legal_is}
 use Rattle.config.specs.Ranges.{Given, Typed}
 use Rattle.config.specs.Sizes.{legal}
 use Rattle.config.specs.declared.Config.{Config}
-use Rattle.image_laws.proofs.Back.{back-bytes, back-legal, back_typed}
+use Rattle.image_laws.proofs.Back.{back_bytes, back_legal, back_typed}
 use Rattle.image_laws.proofs.Front.{image_front}
 use Rattle.image_laws.proofs.Trip.{trip}
 use Rattle.image_reader.proofs.Answers.{answer_accepted, answer_refused}
@@ -28,11 +28,11 @@ image_read c t e = trip c t e
 
 -- C6: writing what was accepted gives the same bytes
 pub read_image_lem : (bs : List ℕ) (c : Config) → Bytes bs → read_image bs ≡ accepted c → image c ≡ bs
-read_image_lem bs c y e = back-bytes bs c y e
+read_image_lem bs c y e = back_bytes bs c y e
 
 -- S1 to S7, H1 to H6: what is accepted is legal
 pub read_legal : (bs : List ℕ) (c : Config) → Bytes bs → read_image bs ≡ accepted c → legal c ≡ true
-read_legal bs c y e = back-legal bs c y e
+read_legal bs c y e = back_legal bs c y e
 
 -- S8: and a value of the struct
 pub read_typed : (bs : List ℕ) (c : Config) → Bytes bs → read_image bs ≡ accepted c → Typed c

@@ -17,13 +17,13 @@ use Rattle.config.specs.Ranges.{Typed}
 use Rattle.config.specs.Sizes.{Legal, duration_at, entry_at, handler_at, has_slot, legal, owner_at, vms_served}
 use Rattle.config.specs.declared.Config.{Config}
 use Rattle.image_laws.proofs.Fill.{Filled, fill_end, fill_more, fill_none, joined_runs, runs}
-use Rattle.image_reader.proofs.RegionTurns.{regions-goes, regions-past}
-use Rattle.image_reader.proofs.Turns.{slots-ends, slots-goes, vms-goes}
+use Rattle.image_reader.proofs.RegionTurns.{regions_goes, regions_past}
+use Rattle.image_reader.proofs.Turns.{slots_ends, slots_goes, vms_goes}
 use Rattle.image_reader.specs.Reader.{accepted, begun, read_end, read_image, read_regions, read_slots, read_vms, with_regions, with_slot, with_vm}
 use Rattle.image_reader.specs.Records.{core_fault, owner_fault, place_fault, region_fault, slot_fault, vm_fault}
 use Rattle.image_writer.specs.Writer.{core_bytes, image, records_bytes, region_bytes, regions_bytes, slot_bytes, slots_bytes, vm_bytes, vms_bytes}
 use Rattle.regions.proofs.Steps.{next_of}
-use Rattle.regions.proofs.Taken.{Begins, next-agrees, next-room}
+use Rattle.regions.proofs.Taken.{Begins, next_agrees, next_room}
 use Rattle.regions.specs.Beside.{agrees_all, with_region}
 use Rattle.regions.specs.Rules.{held, holder_at, last_at, listed, none, permission_at, start_at}
 use Rattle.regions.specs.declared.Regions.{Regions}
@@ -175,7 +175,7 @@ module _ (c : Config) (t : Typed c) (e : legal c ≡ true) where
 
   slots_trip : (m r at : ℕ) (d : Config) → d.slots + m ≡ c.slots → d.slots + r ≡ 64 → Cut c d → read_slots (suc r) (runs (slot_of c) d.slots m ++ (4 ∷ [])) at d ≡ accepted c
   unfolding runs
-  slots_trip zero r at d h k u = slots-ends r (4 ∷ []) at d refl ∙ ap (read_end (4 ∷ []) at) (cut_end d u (omega arith)) ∙ end_trip at
+  slots_trip zero r at d h k u = slots_ends r (4 ∷ []) at d refl ∙ ap (read_end (4 ∷ []) at) (cut_end d u (omega arith)) ∙ end_trip at
   slots_trip (suc m) zero at d h k u = absurd (omega (arith, l.table.1))
   slots_trip (suc m) (suc r) at d h k u =
       let n = d.slots in
@@ -185,7 +185,7 @@ module _ (c : Config) (t : Typed c) (e : legal c ≡ true) where
       let rest = runs (slot_of c) (n + 1) m ++ (4 ∷ []) in
       let one = owner_one c.count o x (l.owned n b) (l.spares n b) (l.named n b) in
       let f : slot_fault d.count n (slot_bytes o x ++ rest) ≡ 0 = rw u.count (slot_one c.count n o x rest (omega arith) (t.duration n) one) in
-      slots-goes (suc r) (slot_bytes o x ++ rest) at d (λ z. omega arith) f
+      slots_goes (suc r) (slot_bytes o x ++ rest) at d (λ z. omega arith) f
       ∙ slots_trip m r (at + 4) (with_slot d o (half (slot_bytes o x ++ rest) 2)) (omega arith) (omega arith) (cut_more d o _ u (omega arith) refl (half_whole x (t.duration n)))
 
   begun_end : (d : Config) (i : ℕ) → i ≡ c.count → Begun c d i → Cut c (with_regions d c.regions)
@@ -202,10 +202,10 @@ module _ (c : Config) (t : Typed c) (e : legal c ≡ true) where
   held_end : (r : Regions) → Held r c.regions → r.count ≡ c.regions.count → r ≡ c.regions
   held_end r u h =
       same_regions r c.regions h
-      (fill_end u.holders (λ k a b. (l.regions.bytes-empty k (omega arith) (omega (arith, t.sized.regions.holders))).0))
-      (fill_end u.permissions (λ k a b. (l.regions.bytes-empty k (omega arith) (omega (arith, t.sized.regions.permissions))).1))
-      (fill_end u.starts (λ k a b. (l.regions.words-empty k (omega arith) (omega (arith, t.sized.regions.starts))).0))
-      (fill_end u.lasts (λ k a b. (l.regions.words-empty k (omega arith) (omega (arith, t.sized.regions.lasts))).1))
+      (fill_end u.holders (λ k a b. (l.regions.bytes_empty k (omega arith) (omega (arith, t.sized.regions.holders))).0))
+      (fill_end u.permissions (λ k a b. (l.regions.bytes_empty k (omega arith) (omega (arith, t.sized.regions.permissions))).1))
+      (fill_end u.starts (λ k a b. (l.regions.words_empty k (omega arith) (omega (arith, t.sized.regions.starts))).0))
+      (fill_end u.lasts (λ k a b. (l.regions.words_empty k (omega arith) (omega (arith, t.sized.regions.lasts))).1))
 
   held_more : (r : Regions) (h p s x : ℕ) → Held r c.regions → r.count < 64
       → h ≡ holder_at c.regions r.count → p ≡ permission_at c.regions r.count → s ≡ start_at c.regions r.count → x ≡ last_at c.regions r.count → Held (with_region r h p s x) c.regions
@@ -234,13 +234,13 @@ module _ (c : Config) (t : Typed c) (e : legal c ≡ true) where
       let b = held_begins r g u in
       rw e
       (region_one c.count r (holder_at g n) (permission_at g n) (start_at g n) (last_at g n) rest (t.regions.start n) (t.regions.last n)
-      (place_one c.count r (holder_at g n) (permission_at g n) (start_at g n) (last_at g n) x.named (omega (arith, l.regions.few)) (next-room c.count r g b x) x.permitted x.ordered (next-agrees c.count r g b x)))
+      (place_one c.count r (holder_at g n) (permission_at g n) (start_at g n) (last_at g n) x.named (omega (arith, l.regions.few)) (next_room c.count r g b x) x.permitted x.ordered (next_agrees c.count r g b x)))
 
   regions_trip : (m n at : ℕ) (d : Config) (r : Regions) → r.count + m ≡ c.regions.count → r.count + n ≡ 64 → Held r c.regions → Begun c d c.count
       → read_regions (suc n) (runs (region_of c.regions) r.count m ++ slots_form c) at d r ≡ accepted c
   unfolding runs
   regions_trip zero n at d r h k u v =
-      regions-past n (slots_form c) at d r (slots_kind c c.slots)
+      regions_past n (slots_form c) at d r (slots_kind c c.slots)
       ∙ ap (λ (x : Regions). read_slots 65 (slots_form c) at (with_regions d x)) (held_end r u (omega arith))
       ∙ ap (λ (j : ℕ). read_slots 65 (runs (slot_of c) j c.slots ++ (4 ∷ [])) at (with_regions d c.regions)) (sym v.slots)
       ∙ slots_trip c.slots 64 at (with_regions d c.regions) (omega (arith, v.slots)) (omega (arith, v.slots)) (begun_end d c.count refl v)
@@ -249,7 +249,7 @@ module _ (c : Config) (t : Typed c) (e : legal c ≡ true) where
       let g = c.regions in
       let i = r.count in
       let rest = runs (region_of g) (i + 1) m ++ slots_form c in
-      regions-goes (suc n) (region_of g i ++ rest) at d r refl (region_fits d r rest v.count u (omega arith))
+      regions_goes (suc n) (region_of g i ++ rest) at d r refl (region_fits d r rest v.count u (omega arith))
       ∙ regions_trip m n (at + 11) d (with_region r (holder_at g i) (permission_at g i) (word (region_of g i ++ rest) 3) (word (region_of g i ++ rest) 7)) (omega arith) (omega arith)
       (held_more r _ _ _ _ u (omega arith) refl refl (word_whole (start_at g i) (t.regions.start i)) (word_whole (last_at g i) (t.regions.last i))) v
 
@@ -274,7 +274,7 @@ module _ (c : Config) (t : Typed c) (e : legal c ≡ true) where
       let b = handler_at c i in
       let rest = runs (vm_of c) (i + 1) m ++ (runs (region_of c.regions) 0 c.regions.count ++ slots_form c) in
       let j : d.count - suc m ≡ i = omega (arith, u.count) in
-      vms-goes m (vm_bytes a b ++ rest) at d (vm_one a b rest)
+      vms_goes m (vm_bytes a b ++ rest) at d (vm_one a b rest)
       ∙ ap (λ (k : ℕ). read_vms m rest (at + 9) (with_vm d k (word (vm_bytes a b ++ rest) 1) (word (vm_bytes a b ++ rest) 5))) j
       ∙ vms_trip m (i + 1) (at + 9) (with_vm d i _ _) (omega arith) (begun_more d i _ _ u (omega (arith, l.vms.1)) (word_whole a (t.entry i)) (word_whole b (t.handler i)))
 

@@ -78,45 +78,45 @@ region_passed vms r bs e = go (short 11 bs) refl e
 
 -- one record of the definition
 module _ (m : ℕ) (bs : List ℕ) (at : ℕ) (c : Config) (r : Regions) where
-  pub regions-past : (get_or bs 0 0 ≡ 5 → ⊥) → read_regions (suc m) bs at c r ≡ read_slots 65 bs at (with_regions c r)
+  pub regions_past : (get_or bs 0 0 ≡ 5 → ⊥) → read_regions (suc m) bs at c r ≡ read_slots 65 bs at (with_regions c r)
   unfolding read_regions
-  regions-past g = rw (ne_eqb (get_or bs 0 0) 5 g)
+  regions_past g = rw (ne_eqb (get_or bs 0 0) 5 g)
 
-  pub regions-bad : (f : ℕ) → get_or bs 0 0 ≡ 5 → f ≡ region_fault c.count r bs → (f ≡ 0 → ⊥) → read_regions (suc m) bs at c r ≡ refused f at
+  pub regions_bad : (f : ℕ) → get_or bs 0 0 ≡ 5 → f ≡ region_fault c.count r bs → (f ≡ 0 → ⊥) → read_regions (suc m) bs at c r ≡ refused f at
   unfolding read_regions
-  regions-bad f g e h = rw (eq-eqb (get_or bs 0 0) 5 g, ← e, ne_eqb f 0 h)
+  regions_bad f g e h = rw (eq-eqb (get_or bs 0 0) 5 g, ← e, ne_eqb f 0 h)
 
-  pub regions-goes : get_or bs 0 0 ≡ 5 → region_fault c.count r bs ≡ 0
+  pub regions_goes : get_or bs 0 0 ≡ 5 → region_fault c.count r bs ≡ 0
       → read_regions (suc m) bs at c r ≡ read_regions m (drop 11 bs) (at + 11) c (with_region r (get_or bs 1 0) (get_or bs 2 0) (word bs 3) (word bs 7))
   unfolding read_regions
-  regions-goes g e = rw (eq-eqb (get_or bs 0 0) 5 g, e)
+  regions_goes g e = rw (eq-eqb (get_or bs 0 0) 5 g, e)
 
 -- one turn of the loop
 module _ {s : List ℕ} {from : ℕ} {c : Config} {r : Regions} {at n : ℕ} (i : Read s from c r at n) (l : n < 65) where
   opened : read_regions (suc (64 - n)) (drop at s) at c r ≡ read_regions 65 (drop from s) from c none
   opened = let e : suc (64 - n) ≡ 65 - n = omega arith in ap (λ (m : ℕ). read_regions m (drop at s) at c r) e ∙ i.same
 
-  pub region-past : {b : ℕ} {x : Reading} {d : Config} → b ≡ get_or (part s at) 0 0 → (b ≡ 5 → ⊥) → d ≡ with_regions c r → x ≡ read_slots 65 (drop at s) at d
+  pub region_past : {b : ℕ} {x : Reading} {d : Config} → b ≡ get_or (part s at) 0 0 → (b ≡ 5 → ⊥) → d ≡ with_regions c r → x ≡ read_slots 65 (drop at s) at d
       → x ≡ read_regions 65 (drop from s) from c none
-  region-past e g k h = rw k at h ∙ sym (regions-past (64 - n) (drop at s) at c r (λ x. g (rw (part_is s at) at e ∙ x))) ∙ opened
+  region_past e g k h = rw k at h ∙ sym (regions_past (64 - n) (drop at s) at c r (λ x. g (rw (part_is s at) at e ∙ x))) ∙ opened
 
-  pub region-bad : {b f : ℕ} {x : Reading} → b ≡ get_or (part s at) 0 0 → b ≡ 5 → f ≡ region_fault c.count r (part s at) → (f ≡ 0 → ⊥) → x ≡ refused f at
+  pub region_bad : {b f : ℕ} {x : Reading} → b ≡ get_or (part s at) 0 0 → b ≡ 5 → f ≡ region_fault c.count r (part s at) → (f ≡ 0 → ⊥) → x ≡ refused f at
       → x ≡ read_regions 65 (drop from s) from c none
-  region-bad {b} {f} e g h k z = z ∙ sym (regions-bad (64 - n) (drop at s) at c r f (sym (rw (part_is s at) at e) ∙ g) (rw (part_is s at) at h) k) ∙ opened
+  region_bad {b} {f} e g h k z = z ∙ sym (regions_bad (64 - n) (drop at s) at c r f (sym (rw (part_is s at) at e) ∙ g) (rw (part_is s at) at h) k) ∙ opened
 
-  pub region-in : {f : ℕ} → f ≡ region_fault c.count r (part s at) → f ≡ 0 → (at + 11 ≤ length s) × (n < 64)
-  region-in h k =
+  pub region_in : {f : ℕ} → f ≡ region_fault c.count r (part s at) → f ≡ 0 → (at + 11 ≤ length s) × (n < 64)
+  region_in h k =
       let w = region_passed c.count r (drop at s) (sym (rw (part_is s at) at h) ∙ k) in
       (omega (arith, w.0, length-drop at s, i.inside), omega (arith, w.1.room, i.counted))
 
-  pub region-more : {b f h p a z : ℕ} {d : Regions} → b ≡ get_or (part s at) 0 0 → b ≡ 5 → f ≡ region_fault c.count r (part s at) → f ≡ 0
+  pub region_more : {b f h p a z : ℕ} {d : Regions} → b ≡ get_or (part s at) 0 0 → b ≡ 5 → f ≡ region_fault c.count r (part s at) → f ≡ 0
       → h ≡ get_or (part s at) 1 0 → p ≡ get_or (part s at) 2 0 → a ≡ word (part s at) 3 → z ≡ word (part s at) 7 → d ≡ with_region r h p a z → Read s from c d (at + 11) (n + 1)
-  region-more {b} {f} e g h k u v w y q =
-      let one = regions-goes (64 - n) (drop at s) at c r (sym (rw (part_is s at) at e) ∙ g) (sym (rw (part_is s at) at h) ∙ k) in
+  region_more {b} {f} e g h k u v w y q =
+      let one = regions_goes (64 - n) (drop at s) at c r (sym (rw (part_is s at) at e) ∙ g) (sym (rw (part_is s at) at h) ∙ k) in
       record {
         few = omega arith;
         counted = ap (λ (x : Regions). x.count) q ∙ ap (λ (x : ℕ). x + 1) i.counted;
-        inside = (region-in h k).0;
+        inside = (region_in h k).0;
         same = (let j : 65 - (n + 1) ≡ 64 - n = omega arith in rw (q, rw (part_is s at) at u, rw (part_is s at) at v, rw (part_is s at) at w, rw (part_is s at) at y, j, ← drop-drop 11 at s) (sym one ∙ opened));
       }
 

@@ -87,26 +87,26 @@ core_passed bs e =
 
 -- one record of the definition
 module _ (m : ℕ) (bs : List ℕ) (at : ℕ) (c : Config) where
-  pub slots-ends : get_or bs 0 0 ≡ 4 → read_slots (suc m) bs at c ≡ read_end bs at c
+  pub slots_ends : get_or bs 0 0 ≡ 4 → read_slots (suc m) bs at c ≡ read_end bs at c
   unfolding read_slots
-  slots-ends h = rw (eq-eqb (get_or bs 0 0) 4 h)
+  slots_ends h = rw (eq-eqb (get_or bs 0 0) 4 h)
 
-  pub slots-bad : (f : ℕ) → (get_or bs 0 0 ≡ 4 → ⊥) → f ≡ slot_fault c.count c.slots bs → (f ≡ 0 → ⊥) → read_slots (suc m) bs at c ≡ refused f at
+  pub slots_bad : (f : ℕ) → (get_or bs 0 0 ≡ 4 → ⊥) → f ≡ slot_fault c.count c.slots bs → (f ≡ 0 → ⊥) → read_slots (suc m) bs at c ≡ refused f at
   unfolding read_slots
-  slots-bad f h e g = rw (ne_eqb (get_or bs 0 0) 4 h, ← e, ne_eqb f 0 g)
+  slots_bad f h e g = rw (ne_eqb (get_or bs 0 0) 4 h, ← e, ne_eqb f 0 g)
 
-  pub slots-goes : (get_or bs 0 0 ≡ 4 → ⊥) → slot_fault c.count c.slots bs ≡ 0
+  pub slots_goes : (get_or bs 0 0 ≡ 4 → ⊥) → slot_fault c.count c.slots bs ≡ 0
       → read_slots (suc m) bs at c ≡ read_slots m (drop 4 bs) (at + 4) (with_slot c (get_or bs 1 0) (half bs 2))
   unfolding read_slots
-  slots-goes h e = rw (ne_eqb (get_or bs 0 0) 4 h, e)
+  slots_goes h e = rw (ne_eqb (get_or bs 0 0) 4 h, e)
 
-  pub vms-bad : (f : ℕ) → f ≡ vm_fault bs → (f ≡ 0 → ⊥) → read_vms (suc m) bs at c ≡ refused f at
+  pub vms_bad : (f : ℕ) → f ≡ vm_fault bs → (f ≡ 0 → ⊥) → read_vms (suc m) bs at c ≡ refused f at
   unfolding read_vms
-  vms-bad f e g = rw (← e, ne_eqb f 0 g)
+  vms_bad f e g = rw (← e, ne_eqb f 0 g)
 
-  pub vms-goes : vm_fault bs ≡ 0 → read_vms (suc m) bs at c ≡ read_vms m (drop 9 bs) (at + 9) (with_vm c (c.count - suc m) (word bs 1) (word bs 5))
+  pub vms_goes : vm_fault bs ≡ 0 → read_vms (suc m) bs at c ≡ read_vms m (drop 9 bs) (at + 9) (with_vm c (c.count - suc m) (word bs 1) (word bs 5))
   unfolding read_vms
-  vms-goes e = rw e
+  vms_goes e = rw e
 
 some_byte : (bs : List ℕ) → get_or bs 0 0 ≡ 4 → 1 ≤ length bs
 some_byte [] e = absurd (omega arith)
@@ -118,33 +118,33 @@ module _ {s : List ℕ} {from : ℕ} {vms c : Config} {at n : ℕ} (i : Slots s 
   opened = let e : suc (64 - n) ≡ 65 - n = omega arith in ap (λ (m : ℕ). read_slots m (drop at s) at c) e ∙ i.same
 
   pub turn_end : {b : ℕ} {r : Reading} → b ≡ get_or (part s at) 0 0 → b ≡ 4 → r ≡ read_end (part s at) at c → r ≡ read_slots 65 (drop from s) from vms
-  turn_end e f h = (rw (part_is s at) at h) ∙ sym (slots-ends (64 - n) (drop at s) at c (sym (rw (part_is s at) at e) ∙ f)) ∙ opened
+  turn_end e f h = (rw (part_is s at) at h) ∙ sym (slots_ends (64 - n) (drop at s) at c (sym (rw (part_is s at) at e) ∙ f)) ∙ opened
 
-  pub turn-end-in : {b : ℕ} → b ≡ get_or (part s at) 0 0 → b ≡ 4 → (at + length (part s at) ≤ length s) × (1 ≤ length (part s at)) × (c.slots ≤ 64)
-  turn-end-in e f = (
+  pub turn_end_in : {b : ℕ} → b ≡ get_or (part s at) 0 0 → b ≡ 4 → (at + length (part s at) ≤ length s) × (1 ≤ length (part s at)) × (c.slots ≤ 64)
+  turn_end_in e f = (
     omega (arith, length-take (length s - at) (drop at s), length-drop at s, i.inside),
     some_byte (part s at) (sym e ∙ f),
     omega (arith, i.counted),
   )
 
-  pub turn-bad : {b f : ℕ} {r : Reading} → b ≡ get_or (part s at) 0 0 → (b ≡ 4 → ⊥) → f ≡ slot_fault c.count n (part s at) → (f ≡ 0 → ⊥) → r ≡ refused f at
+  pub turn_bad : {b f : ℕ} {r : Reading} → b ≡ get_or (part s at) 0 0 → (b ≡ 4 → ⊥) → f ≡ slot_fault c.count n (part s at) → (f ≡ 0 → ⊥) → r ≡ refused f at
       → r ≡ read_slots 65 (drop from s) from vms
-  turn-bad {b} {f} e g h k z =
-      z ∙ sym (slots-bad (64 - n) (drop at s) at c f (λ x. g (rw (part_is s at) at e ∙ x)) (rw (← i.counted, part_is s at) at h) k) ∙ opened
+  turn_bad {b} {f} e g h k z =
+      z ∙ sym (slots_bad (64 - n) (drop at s) at c f (λ x. g (rw (part_is s at) at e ∙ x)) (rw (← i.counted, part_is s at) at h) k) ∙ opened
 
   pub turn_in : {f : ℕ} → f ≡ slot_fault c.count n (part s at) → f ≡ 0 → (at + 4 ≤ length s) × (n < 64)
   turn_in h k =
       let w = slot_passed c.count n (drop at s) (sym (rw (part_is s at) at h) ∙ k) in
       (omega (arith, w.1, length-drop at s, i.inside), w.2)
 
-  pub turn-room : {f : ℕ} → f ≡ slot_fault c.count n (part s at) → f ≡ 0 → c.slots < 64
-  turn-room h k = omega (arith, (turn_in h k).1, i.counted)
+  pub turn_room : {f : ℕ} → f ≡ slot_fault c.count n (part s at) → f ≡ 0 → c.slots < 64
+  turn_room h k = omega (arith, (turn_in h k).1, i.counted)
 
   pub turn_more : {b f o t : ℕ} {d : Config} → b ≡ get_or (part s at) 0 0 → (b ≡ 4 → ⊥) → f ≡ slot_fault c.count n (part s at) → f ≡ 0
       → o ≡ get_or (part s at) 1 0 → t ≡ half (part s at) 2 → d ≡ with_slot c o t → Slots s from vms d (at + 4) (n + 1)
   turn_more {b} {f} {o} {t} {d} e g h k y z w =
       let q = turn_in h k in
-      let one = slots-goes (64 - n) (drop at s) at c (λ x. g (rw (part_is s at) at e ∙ x)) (sym (rw (← i.counted, part_is s at) at h) ∙ k) in
+      let one = slots_goes (64 - n) (drop at s) at c (λ x. g (rw (part_is s at) at e ∙ x)) (sym (rw (← i.counted, part_is s at) at h) ∙ k) in
       record {
         few = omega arith;
         counted = ap (λ (x : Config). x.slots) w ∙ ap (λ (x : ℕ). x + 1) i.counted;
@@ -186,15 +186,15 @@ module _ {s : List ℕ} {core c : Config} {at k : ℕ} (i : Vms s core c at k) (
   vms_opened : read_vms (suc (core.count - (k + 1))) (drop at s) at c ≡ read_vms core.count (drop 3 s) 3 core
   vms_opened = let e : suc (core.count - (k + 1)) ≡ core.count - k = omega arith in ap (λ (m : ℕ). read_vms m (drop at s) at c) e ∙ i.same
 
-  pub vm-bad : {f : ℕ} {r : Reading} → f ≡ vm_fault (part s at) → (f ≡ 0 → ⊥) → r ≡ refused f at → r ≡ read_vms core.count (drop 3 s) 3 core
-  vm-bad {f} h g z = z ∙ sym (vms-bad (core.count - (k + 1)) (drop at s) at c f (rw (part_is s at) at h) g) ∙ vms_opened
+  pub vm_bad : {f : ℕ} {r : Reading} → f ≡ vm_fault (part s at) → (f ≡ 0 → ⊥) → r ≡ refused f at → r ≡ read_vms core.count (drop 3 s) 3 core
+  vm_bad {f} h g z = z ∙ sym (vms_bad (core.count - (k + 1)) (drop at s) at c f (rw (part_is s at) at h) g) ∙ vms_opened
 
   pub vm_in : {f : ℕ} → f ≡ vm_fault (part s at) → f ≡ 0 → at + 9 ≤ length s
   vm_in h g = let w = vm_passed (drop at s) (sym (rw (part_is s at) at h) ∙ g) in omega (arith, w.1, length-drop at s, i.inside)
 
-  pub vm-more : {f e h : ℕ} {d : Config} → f ≡ vm_fault (part s at) → f ≡ 0 → e ≡ word (part s at) 1 → h ≡ word (part s at) 5 → d ≡ with_vm c k e h → Vms s core d (at + 9) (k + 1)
-  vm-more {f} {e} {h} {d} x g y z w =
-      let one = vms-goes (core.count - (k + 1)) (drop at s) at c (sym (rw (part_is s at) at x) ∙ g) in
+  pub vm_more : {f e h : ℕ} {d : Config} → f ≡ vm_fault (part s at) → f ≡ 0 → e ≡ word (part s at) 1 → h ≡ word (part s at) 5 → d ≡ with_vm c k e h → Vms s core d (at + 9) (k + 1)
+  vm_more {f} {e} {h} {d} x g y z w =
+      let one = vms_goes (core.count - (k + 1)) (drop at s) at c (sym (rw (part_is s at) at x) ∙ g) in
       let place : c.count - suc (core.count - (k + 1)) ≡ k = omega (arith, i.counted.0) in
       record {
         few = omega arith;

@@ -72,14 +72,14 @@ image_length c = omega (arith, length-append (records_bytes c) (4 ∷ []), recor
 
 -- the writer's three answers
 module _ (c : Config) (b : List ℕ) (t : Bool) (e : t ≡ legal c) where
-  pub write-illegal : (b' : List ℕ) (r : Written) → t ≡ false → r ≡ unwritten 31 → b' ≡ b → (r ≡ answer_for c (length b)) × (b' ≡ buffer_after c b)
+  pub write_illegal : (b' : List ℕ) (r : Written) → t ≡ false → r ≡ unwritten 31 → b' ≡ b → (r ≡ answer_for c (length b)) × (b' ≡ buffer_after c b)
   unfolding answer_for buffer_after
-  write-illegal b' r f g k = (rw (sym e ∙ f) g, rw (sym e ∙ f) k)
+  write_illegal b' r f g k = (rw (sym e ∙ f) g, rw (sym e ∙ f) k)
 
   module _ (n : ℕ) (sized : n ≡ 4 + c.count * 9 + c.regions.count * 11 + c.slots * 4) (f : t ≡ true) where
-    pub write-short : (b' : List ℕ) (r : Written) → length b < n → r ≡ unwritten 30 → b' ≡ b → (r ≡ answer_for c (length b)) × (b' ≡ buffer_after c b)
+    pub write_short : (b' : List ℕ) (r : Written) → length b < n → r ≡ unwritten 30 → b' ≡ b → (r ≡ answer_for c (length b)) × (b' ≡ buffer_after c b)
     unfolding answer_for buffer_after
-    write-short b' r l g k =
+    write_short b' r l g k =
         let h = lt-ltb (length b) (length (image c)) (omega (arith, image_length c)) in
         (rw (sym e ∙ f, h) g, rw (sym e ∙ f, h) k)
 

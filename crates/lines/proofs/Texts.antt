@@ -15,22 +15,22 @@ use Rattle.text.specs.Puts.{Puts}
 
 module _ {l m : List ℕ} {i j : ℕ} where
   -- one or the other
-  pub choice-none : (v after : ℕ) → v ≡ nobody → Puts (dash after) l i m j → Puts (choice v after) l i m j
+  pub choice_none : (v after : ℕ) → v ≡ nobody → Puts (dash after) l i m j → Puts (choice v after) l i m j
   unfolding choice
-  choice-none v after e p = rw (eq-eqb v nobody e) p
+  choice_none v after e p = rw (eq-eqb v nobody e) p
 
   -- N4: a pseudo-interrupt 0 is a number
-  pub choice-some : (v after : ℕ) → (v ≡ nobody → ⊥) → Puts (number v after) l i m j → Puts (choice v after) l i m j
+  pub choice_some : (v after : ℕ) → (v ≡ nobody → ⊥) → Puts (number v after) l i m j → Puts (choice v after) l i m j
   unfolding choice
-  choice-some v after e p = rw (ne_eqb v nobody e) p
+  choice_some v after e p = rw (ne_eqb v nobody e) p
 
-  pub where-none : (v at : ℕ) → v ≡ nobody → Puts (dash 32) l i m j → Puts (where_text v at) l i m j
+  pub where_none : (v at : ℕ) → v ≡ nobody → Puts (dash 32) l i m j → Puts (where_text v at) l i m j
   unfolding where_text
-  where-none v at e p = rw (eq-eqb v nobody e) p
+  where_none v at e p = rw (eq-eqb v nobody e) p
 
-  pub where-some : (v at : ℕ) → (v ≡ nobody → ⊥) → Puts (address at 32) l i m j → Puts (where_text v at) l i m j
+  pub where_some : (v at : ℕ) → (v ≡ nobody → ⊥) → Puts (address at 32) l i m j → Puts (where_text v at) l i m j
   unfolding where_text
-  where-some v at e p = rw (ne_eqb v nobody e) p
+  where_some v at e p = rw (ne_eqb v nobody e) p
 
 -- nothing is put
 pub puts_none : (l : List ℕ) (i : ℕ) → Puts [] l i l i
@@ -39,13 +39,13 @@ puts_none l i = record { bytes = refl; next = omega arith }
 
 -- a loop that puts the texts f 0, f 1, .. one behind the other
 module _ (f : ℕ → List ℕ) {l : List ℕ} {i : ℕ} where
-  pub joined-none : Puts (joined f 0) l i l i
+  pub joined_none : Puts (joined f 0) l i l i
   unfolding joined
-  joined-none = puts_none l i
+  joined_none = puts_none l i
 
-  pub joined-more : {m n : List ℕ} {j k q : ℕ} → Puts (joined f q) l i m j → Puts (f q) m j n k → Puts (joined f (q + 1)) l i n k
+  pub joined_more : {m n : List ℕ} {j k q : ℕ} → Puts (joined f q) l i m j → Puts (f q) m j n k → Puts (joined f (q + 1)) l i n k
   unfolding joined
-  joined-more {m} {n} {j} {k} {q} a b = rw (add-one q) (puts_then a b)
+  joined_more {m} {n} {j} {k} {q} a b = rw (add-one q) (puts_then a b)
 
   pub joined_end : {m : List ℕ} {j p q : ℕ} → Puts (joined f p) l i m j → p ≡ q → Puts (joined f q) l i m j
   joined_end a e = rw (← e) a

@@ -56,17 +56,17 @@ module _ (c : Core) (s : Stepped) (told : s ≡ step_by c nothing) where
   unfolding step_for asked_by
   told_is = told
 
-  pub tells-unsound : s.answer.refusal ≡ 1 → (sound c ≡ false) × (s ≡ refused c 1)
+  pub tells_unsound : s.answer.refusal ≡ 1 → (sound c ≡ false) × (s ≡ refused c 1)
   unfolding refused
-  tells-unsound h = go (sound c) refl (ap (λ (x : Stepped). x.answer.refusal) (sym told_is) ∙ h) told_is
+  tells_unsound h = go (sound c) refl (ap (λ (x : Stepped). x.answer.refusal) (sym told_is) ∙ h) told_is
     where
       go : (b : Bool) → sound c ≡ b → ◌≡◌ {A = ℕ} (unless (sound c) 1 10) 1 → s ≡ refused c (unless (sound c) 1 10) → (sound c ≡ false) × (s ≡ refused c 1)
       go true e h f = absurd (omega (arith, rw e at h))
       go false e h f = (e, rw e at f)
 
-  pub tells-sound : (s.answer.refusal ≡ 1 → ⊥) → sound c ≡ true
+  pub tells_sound : (s.answer.refusal ≡ 1 → ⊥) → sound c ≡ true
   unfolding refused
-  tells-sound h = go (sound c) refl
+  tells_sound h = go (sound c) refl
     where
       go : (b : Bool) → sound c ≡ b → sound c ≡ true
       go true e = e

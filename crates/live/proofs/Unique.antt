@@ -34,14 +34,14 @@ module _ {M : Type 1} {𝓤 : Ura M} (𝓛 : Logic 𝓤) (mem : Memory → SProp
       fact_use 𝓤 (P × Q) (via 𝓤 (conj 𝓤 (fact 𝓤 P) (fact 𝓤 Q)) (sep→conj 𝓤 (fact 𝓤 P) (fact 𝓤 Q)) (both_say 𝓛 P Q (id⊢ 𝓤 (fact 𝓤 P)) (id⊢ 𝓤 (fact 𝓤 Q))))
       (λ b. fact_i 𝓤 R (sep 𝓤 (fact 𝓤 P) (fact 𝓤 Q)) (f b.0 b.1))
 
-  pub happen-one : (κs : Lfts 1) (a : Args happen.signature κs) (x y : Res happen.signature κs) (s t : AtExit happen.ended κs)
+  pub happen_one : (κs : Lfts 1) (a : Args happen.signature κs) (x y : Res happen.signature κs) (s t : AtExit happen.ended κs)
       → ent 𝓤 (sep 𝓤 ((happen.clauses 𝓛 mem run κs a).ensures tt x s) ((happen.clauses 𝓛 mem run κs a).ensures tt y t)) (fact 𝓤 ((x ≡ y) × (s.0.now ≡ t.0.now)))
-  happen-one κs a x y s t = of_both (λ p q. (p.1 ∙ sym q.1, p.0 ∙ sym q.0))
+  happen_one κs a x y s t = of_both (λ p q. (p.1 ∙ sym q.1, p.0 ∙ sym q.0))
 
   -- C1, C2
-  pub core-live-one : (κs : Lfts 1) (a : Args live.signature κs) (x y : Res live.signature κs) (s t : AtExit live.ended κs)
+  pub core_live_one : (κs : Lfts 1) (a : Args live.signature κs) (x y : Res live.signature κs) (s t : AtExit live.ended κs)
       → ent 𝓤 (sep 𝓤 ((live.clauses 𝓛 mem run κs a).ensures tt x s) ((live.clauses 𝓛 mem run κs a).ensures tt y t)) (fact 𝓤 ((x ≡ y) × (s.0.now ≡ t.0.now)))
-  core-live-one κs a x y s t = of_both (λ p q. (p.1 ∙ sym q.1, p.0 ∙ sym q.0))
+  core_live_one κs a x y s t = of_both (λ p q. (p.1 ∙ sym q.1, p.0 ∙ sym q.0))
 
   -- C1, C2
   pub core_inner_one : (κs : Lfts 1) (a : Args inner.signature κs) (x y : Res inner.signature κs) (s t : AtExit inner.ended κs)

@@ -19,16 +19,16 @@ shown_short b image log memory h = rw (lt-ltb (length b) enough h) (puts_none b 
 
 module _ (b image log memory : List ℕ) (room : enough ≤ length b) (r : Reading) (k : r ≡ read_image image) where
   -- no run, and so no window
-  pub shown-refused : (r.fault ≡ 0 → ⊥) → Puts (shown_in (length b) image log memory) b 0 b 0
+  pub shown_refused : (r.fault ≡ 0 → ⊥) → Puts (shown_in (length b) image log memory) b 0 b 0
   unfolding shown_in window_part is_run
-  shown-refused h = rw (le-ltb (length b) enough room, ← k, ne_eqb r.fault 0 h) (puts_none b 0)
+  shown_refused h = rw (le-ltb (length b) enough room, ← k, ne_eqb r.fault 0 h) (puts_none b 0)
 
-  pub shown-long : r.fault ≡ 0 → longest < length log → Puts (shown_in (length b) image log memory) b 0 b 0
+  pub shown_long : r.fault ≡ 0 → longest < length log → Puts (shown_in (length b) image log memory) b 0 b 0
   unfolding shown_in window_part is_run
-  shown-long h l = rw (le-ltb (length b) enough room, ← k, eq-eqb r.fault 0 h, lt-leb (length log) longest l) (puts_none b 0)
+  shown_long h l = rw (le-ltb (length b) enough room, ← k, eq-eqb r.fault 0 h, lt-leb (length log) longest l) (puts_none b 0)
 
   -- the window that the run left
-  pub shown-window : (x m n : List ℕ) (j : ℕ) → r.fault ≡ 0 → length log ≤ longest → x ≡ window_with memory → m ≡ memory_by (fresh_core r.config) (events_from log 0) x
+  pub shown_window : (x m n : List ℕ) (j : ℕ) → r.fault ≡ 0 → length log ≤ longest → x ≡ window_with memory → m ≡ memory_by (fresh_core r.config) (events_from log 0) x
       → Puts (window_text m) b 0 n j → Puts (shown_in (length b) image log memory) b 0 n j
   unfolding shown_in window_part is_run window_after
-  shown-window x m n j h l e f p = rw (le-ltb (length b) enough room, ← k, eq-eqb r.fault 0 h, le-leb (length log) longest l, ← e, ← f) p
+  shown_window x m n j h l e f p = rw (le-ltb (length b) enough room, ← k, eq-eqb r.fault 0 h, le-leb (length log) longest l, ← e, ← f) p

@@ -7,7 +7,7 @@ use mathlib.Core.Bool.{Bool, false, true}
 use mathlib.Core.List.{List}
 use mathlib.Core.Path.{ap, refl, sym, ◌∙◌, ◌≡◌}
 use native.Mathlib.Omega.{arith}
-use Rattle.basis.proofs.Laws.{every-end, every-is, every_more, every-none, false_true, same_test}
+use Rattle.basis.proofs.Laws.{every_end, every_is, every_more, every_none, false_true, same_test}
 use Rattle.basis.specs.Choice.{both}
 use Rattle.basis.specs.Count.{every}
 use Rattle.lines.proofs.Texts.{puts_none}
@@ -20,35 +20,35 @@ abbrev pub blank_to : List ℕ → ℕ → Bool
 blank_to row n = every (λ i. eqb (get_or row i 0) 0) n
 
 pub blank_none : (row : List ℕ) → true ≡ blank_to row 0
-blank_none row = every-none (λ i. eqb (get_or row i 0) 0) true refl
+blank_none row = every_none (λ i. eqb (get_or row i 0) 0) true refl
 
 pub blank_more : (row : List ℕ) (n : ℕ) → true ≡ blank_to row n → get_or row n 0 ≡ 0 → true ≡ blank_to row (n + 1)
 blank_more row n e h = every_more (λ i. eqb (get_or row i 0) 0) n true true e (sym (ap (λ b. both b true) (eq-eqb (get_or row n 0) 0 h)))
 
 pub blank_end : (row : List ℕ) (n : ℕ) → true ≡ blank_to row n → n ≡ 32 → true ≡ is_blank row
 unfolding is_blank
-blank_end row n e h = every-end (λ i. eqb (get_or row i 0) 0) n 32 true e h
+blank_end row n e h = every_end (λ i. eqb (get_or row i 0) 0) n 32 true e h
 
 -- one byte that is not zero
 pub blank_not : (row : List ℕ) (n : ℕ) → n < 32 → (get_or row n 0 ≡ 0 → ⊥) → false ≡ is_blank row
 unfolding is_blank
 blank_not row n h f =
-    same_test false (is_blank row) (λ e. false_true e) (λ e. sym (ne_eqb (get_or row n 0) 0 f) ∙ every-is (λ i. eqb (get_or row i 0) 0) 32 e n h)
+    same_test false (is_blank row) (λ e. false_true e) (λ e. sym (ne_eqb (get_or row n 0) 0 f) ∙ every_is (λ i. eqb (get_or row i 0) 0) 32 e n h)
 
 -- the slice that the code takes is the row
 row_is : (m : List ℕ) (k : ℕ) → take (32 * k + 32 - 32 * k) (drop (32 * k) m) ≡ row_of m k
 row_is m k = let e : 32 * k + 32 - 32 * k ≡ 32 = omega arith in ap (λ (n : ℕ). take n (drop (32 * k) m)) e
 
 module _ {b n : List ℕ} {i j : ℕ} where
-  pub row-bytes : (row : List ℕ) → length row ≡ 32 → Puts (bytes_text row (length row)) b i n j → Puts (bytes_text row 32) b i n j
-  row-bytes row e p = rw (← e) p
+  pub row_bytes : (row : List ℕ) → length row ≡ 32 → Puts (bytes_text row (length row)) b i n j → Puts (bytes_text row 32) b i n j
+  row_bytes row e p = rw (← e) p
 
   module _ (m : List ℕ) (k : ℕ) (x : Bool) (h : x ≡ is_blank (take (32 * k + 32 - 32 * k) (drop (32 * k) m))) where
-    pub row-shown : x ≡ false → Puts (row_line (1073741824 + 32 * k) (take (32 * k + 32 - 32 * k) (drop (32 * k) m))) b i n j → Puts (row_text m k) b i n j
+    pub row_shown : x ≡ false → Puts (row_line (1073741824 + 32 * k) (take (32 * k + 32 - 32 * k) (drop (32 * k) m))) b i n j → Puts (row_text m k) b i n j
     unfolding row_text
-    row-shown e p = rw (← row_is m k, ← h, e) p
+    row_shown e p = rw (← row_is m k, ← h, e) p
 
 module _ (b : List ℕ) (i : ℕ) (m : List ℕ) (k : ℕ) (x : Bool) (h : x ≡ is_blank (take (32 * k + 32 - 32 * k) (drop (32 * k) m))) where
-  pub row-none : x ≡ true → Puts (row_text m k) b i b i
+  pub row_none : x ≡ true → Puts (row_text m k) b i b i
   unfolding row_text
-  row-none e = rw (← row_is m k, ← h, e) (puts_none b i)
+  row_none e = rw (← row_is m k, ← h, e) (puts_none b i)

@@ -11,7 +11,7 @@ use native.Mathlib.Omega.{arith}
 use Rattle.basis.proofs.Laws.{every_of, false_true, pick_case}
 use Rattle.basis.specs.Choice.{both, either, pick}
 use Rattle.basis.specs.Count.{joined}
-use Rattle.rig_core.proofs.Copying.{by_refusal, stays-failed, stays-refused}
+use Rattle.rig_core.proofs.Copying.{by_refusal, stays_failed, stays_refused}
 use Rattle.rig_core.specs.Events.{step_of}
 use Rattle.rig_core.specs.Memory.{copies, copied_by, memory_after, memory_as}
 use Rattle.rig_core.specs.Refusals.{refusal_of}
@@ -100,8 +100,8 @@ event_stays c (Fault code detail) m h = refl
 event_stays c (Copy p w) m h = go (eqb (step_of c (Copy p w)).answer.refusal 0) (eqb (step_of c (Copy p w)).answer.notice.kind 0) refl refl h
   where
     go : (a b : Bool) → eqb (step_of c (Copy p w)).answer.refusal 0 ≡ a → eqb (step_of c (Copy p w)).answer.notice.kind 0 ≡ b → both a b ≡ false → memory_after c (Copy p w) m ≡ m
-    go false b x y z = sym (stays-refused c p w (refusal_of c (Copy p w)) (step_of c (Copy p w)) (by_refusal c (Copy p w) _ refl) m (eqb-false _ 0 x))
-    go true false x y z = sym (stays-failed c p w (refusal_of c (Copy p w)) (step_of c (Copy p w)) (by_refusal c (Copy p w) _ refl) m (eqb-true _ 0 x) (eqb-false _ 0 y))
+    go false b x y z = sym (stays_refused c p w (refusal_of c (Copy p w)) (step_of c (Copy p w)) (by_refusal c (Copy p w) _ refl) m (eqb-false _ 0 x))
+    go true false x y z = sym (stays_failed c p w (refusal_of c (Copy p w)) (step_of c (Copy p w)) (by_refusal c (Copy p w) _ refl) m (eqb-true _ 0 x) (eqb-false _ 0 y))
     go true true x y z = false_true (sym z)
 
 events_stay : (c : Core) (es : List Event) (m : List ℕ) → some_copying c es ≡ false → memory_by c es m ≡ m

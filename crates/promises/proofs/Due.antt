@@ -31,32 +31,32 @@ module _ (o : Offer) (s : Status) (pending : s.pending ≡ o.pending) (enabled :
   none_found : due s ≡ Nothing → NoneDue o
   none_found h k l i = apart k (due_nothing s h k l) i
 
-  pub found-highest : (n : ℕ) → due s ≡ At n → Highest o n
-  found-highest n h =
+  pub found_highest : (n : ℕ) → due s ≡ At n → Highest o n
+  found_highest n h =
       let a = due_is s n h in
       let b = rw (pending, enabled) at a.1 in
       record { small = a.0; set = (both_left (bit n o.pending) (bit n o.enabled) b, both_right (bit n o.pending) (bit n o.enabled) b); top = λ k l m i. apart k (a.2 k l m) i }
 
-  pub highest-found : (n : ℕ) → Highest o n → due s ≡ At n
-  highest-found n a = go (due s) refl
+  pub highest_found : (n : ℕ) → Highest o n → due s ≡ At n
+  highest_found n a = go (due s) refl
     where
       go : (f : Found) → due s ≡ f → f ≡ At n
       go Nothing h = absurd (none_found h n a.small a.set)
-      go (At k) h = ap At (highest_one o k n (found-highest k h) a)
+      go (At k) h = ap At (highest_one o k n (found_highest k h) a)
 
   pub found_none : NoneDue o → due s ≡ Nothing
   found_none a = go (due s) refl
     where
       go : (f : Found) → due s ≡ f → f ≡ Nothing
       go Nothing h = refl
-      go (At k) h = (let b = found-highest k h in absurd (a k b.small b.set))
+      go (At k) h = (let b = found_highest k h in absurd (a k b.small b.set))
 
   due_cases : NoneDue o ⊎ ((n : ℕ) × Highest o n)
   due_cases = go (due s) refl
     where
       go : (f : Found) → due s ≡ f → NoneDue o ⊎ ((n : ℕ) × Highest o n)
       go Nothing h = inl (none_found h)
-      go (At k) h = inr (k, found-highest k h)
+      go (At k) h = inr (k, found_highest k h)
 
 -- nothing is due, or one number is
 pub due_either : (o : Offer) → NoneDue o ⊎ ((n : ℕ) × Highest o n)

@@ -40,7 +40,7 @@ takes_start b r g d = eq-eqb (b (fresh_core g) Start).answer.refusal 0 ((r (fres
 pub idle_at_first : (b : Behaviour) → Rules b → (g : Config) → Given g → (es : List Event) → ticks_of b g es ≡ 0 → (state_of b g es).running ≡ 255
 idle_at_first b r g d es z =
     let h : has_ticked (state_of b g es).clock ≡ false = subst (λ (k : ℕ). Stands g k (state_of b g es).clock) z (r.table g d es).stands in
-    (sound_is (state_of b g es) (r.stays-sound g d es)).first h
+    (sound_is (state_of b g es) (r.stays_sound g d es)).first h
 
 -- ---- T4: a Write of any value at any offset moves neither count
 
@@ -52,24 +52,24 @@ module _ (b : Behaviour) (r : Rules b) (g : Config) (d : Given g) (v : ℕ) (l :
   unfolding begins
   still grows h = told_more _ 0 (history b g es) m ∙ rw (h, both_no (went m))
 
-  pub write-keeps-age : (vm_at m.after v).age ≡ (vm_at (state_of b g es) v).age
-  write-keeps-age =
+  pub write_keeps_age : (vm_at m.after v).age ≡ (vm_at (state_of b g es) v).age
+  write_keeps_age =
       (rules_fit b r g d es (Write o x)).clocks.age v l ∙ ap (λ (i : ℕ). i % 2 ^ 32) (still ticking (both_no (went m))) ∙ sym ((r.clocks g d es).age v l)
 
-  pub write-keeps-ran : (vm_at m.after v).ran ≡ (vm_at (state_of b g es) v).ran
-  write-keeps-ran =
+  pub write_keeps_ran : (vm_at m.after v).ran ≡ (vm_at (state_of b g es) v).ran
+  write_keeps_ran =
       (rules_fit b r g d es (Write o x)).clocks.ran v l ∙ ap (λ (i : ℕ). i % 2 ^ 32) (still (ran_in v) (rw (both_no (went m)))) ∙ sym ((r.clocks g d es).ran v l)
 
 -- ---- T10: the queue counts are what the history tells
 
 module _ (b : Behaviour) (g : Config) (d : Given g) (es : List Event) where
   -- how many of a VM's requests stand in the queue
-  pub counts-told : Rules b → (v : ℕ) → v < 8 → get_or (state_of b g es).queue.counts v 0 ≡ entries_of v (queue_in g (history b g es))
-  counts-told r v i = (sound_is (state_of b g es) (r.stays-sound g d es)).counted v i ∙ ap (entries_of v) (r.traced g d es).queue
+  pub counts_told : Rules b → (v : ℕ) → v < 8 → get_or (state_of b g es).queue.counts v 0 ≡ entries_of v (queue_in g (history b g es))
+  counts_told r v i = (sound_is (state_of b g es) (r.stays_sound g d es)).counted v i ∙ ap (entries_of v) (r.traced g d es).queue
 
   -- C9: so the requests that were accepted are those that a spare tick served, those removed, and the VM's count
-  pub counts-account : KeepsAll b → (v : ℕ) → v < g.count
+  pub counts_account : KeepsAll b → (v : ℕ) → v < g.count
       → times (asks v) (history b g es) ≡ times (handed g v) (history b g es) + (removed_in g v (history b g es) + get_or (state_of b g es).queue.counts v 0)
-  counts-account r v l =
+  counts_account r v l =
       let i : v < 8 = omega (arith, (legal_is g d.legal).vms.1) in
-      r.accounts g d v l es ∙ ap (λ (n : ℕ). times (handed g v) (history b g es) + (removed_in g v (history b g es) + n)) (sym (counts-told r.rules v i))
+      r.accounts g d v l es ∙ ap (λ (n : ℕ). times (handed g v) (history b g es) + (removed_in g v (history b g es) + n)) (sym (counts_told r.rules v i))

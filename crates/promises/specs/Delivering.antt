@@ -79,8 +79,8 @@ pub record Delivered (g : Config) (o : Offer) (m : Moment) : Type 0 where
 
 -- a tick delivers to the VM that it runs, and leaves the fields of every other VM alone
 pub record DeliversAtTick (g : Config) (at : ℕ) (m : Moment) : Type 0 where
-  pub to-runner : (v : ℕ) → v < g.count → m.answer.running ≡ v → Delivered g (tick_offer m.before at v) m
-  pub to-nobody : m.answer.running ≡ 255 → m.answer.delivered ≡ 255
+  pub to_runner : (v : ℕ) → v < g.count → m.answer.running ≡ v → Delivered g (tick_offer m.before at v) m
+  pub to_nobody : m.answer.running ≡ 255 → m.answer.delivered ≡ 255
   pub others : (w : ℕ) → (m.answer.running ≡ w → ⊥) → (vm_at m.after w).status ≡ (vm_at m.before w).status
   -- D3: of those that do not run now, the VM that was running is to go on at the address given, every other where it was
   pub addresses : (w : ℕ) → w < g.count → (m.answer.running ≡ w → ⊥) → (vm_at m.after w).address ≡ pick (eqb w m.before.running) at (vm_at m.before w).address

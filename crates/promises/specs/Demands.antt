@@ -11,7 +11,7 @@ use Rattle.promises.specs.Tracing.{Runs, Traced}
 -- the first and the second demand: what each event of a run answers, and what it makes of the state. They leave only one core
 pub record Rules (b : Behaviour) : Type 0 where
   pub refuses : Refuses b
-  pub stays-sound : StaysSound b
+  pub stays_sound : StaysSound b
   pub tells : Tells b
   pub removing : Removing b
   pub table : Table b

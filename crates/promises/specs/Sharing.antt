@@ -24,7 +24,7 @@ EachQueued g p q ms = EachTold (queue_after g) p q ms
 -- Those ticks are at most v's entries standing before ns plus its requests accepted during ns.
 pub record SlicesOf (g : Config) (v : ℕ) (ms ns : List Moment) : Type 0 where
   pub runs_named : EachStanding v (λ t m. naming g v m ≡ true → t ≡ 1 → runs v m ≡ true) (standing_in v ms) ns
-  pub else-handed : EachQueued g (λ q m. ticking m ≡ true → runs v m ≡ true → naming g v m ≡ false → (spare g m ≡ true) × (front_of q ≡ v)) (queue_in g ms) ns
+  pub else_handed : EachQueued g (λ q m. ticking m ≡ true → runs v m ≡ true → naming g v m ≡ false → (spare g m ≡ true) × (front_of q ≡ v)) (queue_in g ms) ns
   -- so over a stretch at each accepted tick of which v is ready, the ticks that it runs are those named for it and those handed to it
   pub exactly : EachStanding v (λ t m. ticking m ≡ true → t ≡ 1) (standing_in v ms) ns → times (ran_in v) ns ≡ times (naming g v) ns + times (handed g v) ns
   pub at_most : times (handed g v) ns ≤ entries_of v (queue_in g ms) + times (asks v) ns
@@ -37,7 +37,7 @@ Slices b = (g : Config) → Given g → (v : ℕ) → v < g.count → (es fs : L
 -- Begin fresh, send any events, then an event that is an accepted request of v with the entries q ahead of it, then any events, whose moments are ns.
 pub record WaitingOf (g : Config) (v : ℕ) (q : List ℕ) (ns : List Moment) : Type 0 where
   -- T5: the request is followed in the queue itself
-  pub is-queue : Follows g (map plain q ++ (marked v ∷ [])) ns
+  pub is_queue : Follows g (map plain q ++ (marked v ∷ [])) ns
   -- if v is not stopped, shut down, in error or restarted, and there are more spare ticks than entries ahead, the request itself is served
   pub served : times (ends v) ns ≡ 0 → length q < times (spare g) ns → served_in g v (map plain q ++ (marked v ∷ [])) ns ≡ true
 

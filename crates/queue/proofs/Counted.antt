@@ -2,7 +2,7 @@
 use Rattle.std.proofs.Common.{◌≡◌, ℕ, suc, ◌+◌, ◌-◌, ◌%◌, ◌^◌, ◌<◌, ◌≤◌, min, Bool, true, false, eqb, List, [], ◌∷◌, ◌++◌, length, get_or, take, set, replicate, sym, refl, ap, ◌∙◌, mod-eq_of_lt, add-one, arith, length-set, length-take, take_all, get_or-set_other, take-suc, get_or-set_same, ext_get_or, eq-eqb, ne_eqb, eqb-true}
 use borrow.Author.Tests.{eqb-false}
 use native.Mathlib.Decide.{dec_lt}
-use Rattle.basis.proofs.Laws.{eqb_same, every_below, every-is, every_of}
+use Rattle.basis.proofs.Laws.{eqb_same, every_below, every_is, every_of}
 use Rattle.basis.specs.Choice.{pick}
 use Rattle.basis.specs.Count.{every}
 use Rattle.basis.specs.Nobody.{nobody}
@@ -86,8 +86,8 @@ module _ (counts l m : List ℕ) (v x : ℕ) (eight : length counts ≡ 8) (h : 
 
 module _ (counts l : List ℕ) (eight : length counts ≡ 8) (h : Counted counts l) where
   -- D20, D29
-  pub counted-raised : (v : ℕ) → length l < 16 → Counted (raised v counts) (l ++ (v ∷ []))
-  counted-raised v few =
+  pub counted_raised : (v : ℕ) → length l < 16 → Counted (raised v counts) (l ++ (v ∷ []))
+  counted_raised v few =
       counted_set counts l (l ++ (v ∷ [])) v ((get_or counts v 0 + 1) % 2 ^ 8) eight h
       (λ i. mod-eq_of_lt (omega (arith, h v i, entries_few v l)) ∙ omega (arith, h v i, joins v (eqb_same v)))
       (λ w i e. omega (arith, joins w e))
@@ -96,8 +96,8 @@ module _ (counts l : List ℕ) (eight : length counts ≡ 8) (h : Counted counts
       joins w e = rw e at (entries_add w v l)
 
   -- D7
-  pub counted-lowered : Counted (lowered (front_of l) counts) (rest l)
-  counted-lowered =
+  pub counted_lowered : Counted (lowered (front_of l) counts) (rest l)
+  counted_lowered =
       counted_set counts l (rest l) (front_of l) (get_or counts (front_of l) 0 - 1) eight h
       (λ i. omega (arith, h (front_of l) i, leaves (front_of l) (omega arith) (eqb_same (front_of l))))
       (λ w i e. omega (arith, leaves w (omega arith) e))
@@ -106,8 +106,8 @@ module _ (counts l : List ℕ) (eight : length counts ≡ 8) (h : Counted counts
       leaves w i e = rw e at (entries_rest w l i)
 
   -- D14, D18
-  pub counted-cleared : (v : ℕ) → Counted (cleared v counts) (others v l)
-  counted-cleared v = counted_set counts l (others v l) v 0 eight h (λ i. sym (entries_gone v l)) (λ w i e. sym (entries_stay w v l e))
+  pub counted_cleared : (v : ℕ) → Counted (cleared v counts) (others v l)
+  counted_cleared v = counted_set counts l (others v l) v 0 eight h (λ i. sym (entries_gone v l)) (λ w i e. sym (entries_stay w v l e))
 
 -- there is one list of counts for each list of entries
 pub counted_one : (a b l : List ℕ) → length a ≡ 8 → length b ≡ 8 → Counted a l → Counted b l → a ≡ b
@@ -119,19 +119,19 @@ unfolding entries_of
 counts_none items v i = zeros_at 8 v
 
 module _ (items out : List ℕ) (k : ℕ) (places : length items ≡ 16) (in-them : k < 16) (eight : length out ≡ 8) (h : Counted out (take k items)) where
-  pub counts-more : (y : ℕ) (l : List ℕ) → y ≡ (get_or out (get_or items k 0) 0 + 1) % 2 ^ 8 → l ≡ set out (get_or items k 0) y → (length l ≡ 8) × Counted l (take (k + 1) items)
-  counts-more y l e f = (
+  pub counts_more : (y : ℕ) (l : List ℕ) → y ≡ (get_or out (get_or items k 0) 0 + 1) % 2 ^ 8 → l ≡ set out (get_or items k 0) y → (length l ≡ 8) × Counted l (take (k + 1) items)
+  counts_more y l e f = (
     ap length f ∙ length-set out (get_or items k 0) y ∙ eight,
-    rw (f, e, add-one k, take-suc items k 0 (omega arith)) (counted-raised out (take k items) eight h (get_or items k 0) (omega (arith, length-take k items))),
+    rw (f, e, add-one k, take-suc items k 0 (omega arith)) (counted_raised out (take k items) eight h (get_or items k 0) (omega (arith, length-take k items))),
   )
 
   pub counts_past : (l : List ℕ) → 8 ≤ get_or items k 0 → l ≡ out → (length l ≡ 8) × Counted l (take (k + 1) items)
-  counts_past l g e = counts-more ((get_or out (get_or items k 0) 0 + 1) % 2 ^ 8) l refl (e ∙ set_past out 8 (get_or items k 0) _ eight g)
+  counts_past l g e = counts_more ((get_or out (get_or items k 0) 0 + 1) % 2 ^ 8) l refl (e ∙ set_past out 8 (get_or items k 0) _ eight g)
 
 -- W13: the test is the fact
 pub counted_is : (q : Queue) → counted_of q ≡ true → Counted q.counts (entries q)
 unfolding counted_of
-counted_is q e v i = eqb-true _ _ (every-is (λ w. eqb (get_or q.counts w 0) (entries_of w (entries q))) 8 e v i)
+counted_is q e v i = eqb-true _ _ (every_is (λ w. eqb (get_or q.counts w 0) (entries_of w (entries q))) 8 e v i)
 
 pub counted_of_lem : (q : Queue) → Counted q.counts (entries q) → counted_of q ≡ true
 unfolding counted_of

@@ -2,7 +2,7 @@
 use Rattle.std.proofs.Common.{◌≡◌, ℕ, zero, suc, ◌+◌, ◌-◌, ◌<◌, ◌≤◌, Bool, true, false, eqb, ltb, ◌≢◌, List, [], ◌∷◌, ◌++◌, length, get_or, take, replicate, sym, refl, ◌∙◌, ⊎_elim, add-one, arith, length-append, length-set, length-take, length-take-le, ext_get_or, ltb-true, le-ltb, lt-ltb, eq-eqb, eqb-true}
 use lib.Seq.{take-append_seam}
 use native.Mathlib.Decide.{dec_lt}
-use Rattle.basis.proofs.Laws.{either_is, either_left, either_right, every-is, every_of}
+use Rattle.basis.proofs.Laws.{either_is, either_left, either_right, every_is, every_of}
 use Rattle.basis.specs.Choice.{either, pick}
 use Rattle.basis.specs.Nobody.{nobody}
 use Rattle.queue.proofs.Lists.{length_pad, pad, pad_at, past_at, take_at_in, take_at_past}
@@ -120,7 +120,7 @@ of_entries q s h e =
         ⊎_elim
         (λ t. absurd (omega (arith, ltb-true k q.len t)))
         (λ t. eqb-true (get_or q.items k 0) 0 t)
-        (either_is (ltb k q.len) _ (every-is (λ j. either (ltb j q.len) (eqb (get_or q.items j 0) 0)) 16 e k i))
+        (either_is (ltb k q.len) _ (every_is (λ j. either (ltb j q.len) (eqb (get_or q.items j 0) 0)) 16 e k i))
 
     at_place : (k : ℕ) → k < length q.items → get_or q.items k 0 ≡ get_or (pad (entries q)) k 0
     at_place k i =
@@ -202,15 +202,15 @@ module _ (p : ℕ → Type 0) where
   all_append [] x a h = (h, tt)
   all_append (y ∷ l) x a h = (a.0, all_append l x a.1 h)
 
-  pub all-front : (l : List ℕ) → 0 < length l → All p l → p (front_of l)
+  pub all_front : (l : List ℕ) → 0 < length l → All p l → p (front_of l)
   unfolding front_of
-  all-front [] h a = absurd (omega arith)
-  all-front (x ∷ l) h a = a.0
+  all_front [] h a = absurd (omega arith)
+  all_front (x ∷ l) h a = a.0
 
-  pub all-at : (l : List ℕ) → All p l → (k : ℕ) → k < length l → p (get_or l k 0)
-  all-at [] a k h = absurd (omega arith)
-  all-at (x ∷ l) a zero h = a.0
-  all-at (x ∷ l) a (suc k) h = all-at l a.1 k (omega arith)
+  pub all_at : (l : List ℕ) → All p l → (k : ℕ) → k < length l → p (get_or l k 0)
+  all_at [] a k h = absurd (omega arith)
+  all_at (x ∷ l) a zero h = a.0
+  all_at (x ∷ l) a (suc k) h = all_at l a.1 k (omega arith)
 
   pub all_of : (l : List ℕ) → ((k : ℕ) → k < length l → p (get_or l k 0)) → All p l
   all_of [] f = tt

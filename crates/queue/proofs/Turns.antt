@@ -140,11 +140,11 @@ module _ (v : ℕ) (q r : Queue) (before : ℕ) (s : length q.items ≡ 16) (e :
   long : before ≡ r.len + entries_of v (entries q)
   long = omega (arith, e, length-take q.len q.items, s, others_count v (entries q), ap (λ (x : Queue). x.len) f)
 
-  pub removed-few : r.len ≤ before
-  removed-few = omega (arith, long)
+  pub removed_few : r.len ≤ before
+  removed_few = omega (arith, long)
 
-  pub removal-is : (count : ℕ) → count ≡ before - r.len → ◌≡◌ {A = Removal} (record { queue = r; count = count }) (removal v q)
-  removal-is count g = let h : count ≡ entries_of v (entries q) = omega (arith, g, long) in rw (f, h)
+  pub removal_is : (count : ℕ) → count ≡ before - r.len → ◌≡◌ {A = Removal} (record { queue = r; count = count }) (removal v q)
+  removal_is count g = let h : count ≡ entries_of v (entries q) = omega (arith, g, long) in rw (f, h)
 
 -- the loop that joins the places past the entries: none yet, and one more
 pub past_none : (n : ℕ) (items : List ℕ) (k : ℕ) → k ≡ min n 16 → true ≡ every (λ j. either (ltb j n) (eqb (get_or items j 0) 0)) k

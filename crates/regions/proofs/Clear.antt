@@ -9,7 +9,7 @@ use mathlib.Core.Logic.{inl, inr, ◌⊎◌, ⊎_elim}
 use mathlib.Core.Path.{refl, subst, sym, ◌∙◌, ◌≡◌}
 use native.Mathlib.Decide.{dec_lt}
 use native.Mathlib.Omega.{arith}
-use Rattle.basis.proofs.Laws.{both_left, both_of, both_right, either_is, either_left, either_right, eqb_swap, every-is, every_of}
+use Rattle.basis.proofs.Laws.{both_left, both_of, both_right, either_is, either_left, either_right, eqb_swap, every_is, every_of}
 use Rattle.basis.specs.Choice.{both}
 use Rattle.basis.specs.Count.{every}
 use Rattle.regions.specs.Beside.{agrees_all, clear, follows}
@@ -22,7 +22,7 @@ unfolding agrees_all
 clear_agrees r h p s l b few e t =
     sym
     (both_of (leb r.count 64) _ (le-leb r.count 64 few)
-    (every_of _ r.count (λ k m. either_right (both (not (may_write p)) (not (may_write (permission_at r k)))) _ (either_right (eqb h (holder_at r k)) _ (every-is _ r.count (sym e ∙ t) k m)))))
+    (every_of _ r.count (λ k m. either_right (both (not (may_write p)) (not (may_write (permission_at r k)))) _ (either_right (eqb h (holder_at r k)) _ (every_is _ r.count (sym e ∙ t) k m)))))
 
 -- regions in the order of their addresses: each range is behind every earlier one, or the same
 module _ (n : ℕ) (ss ls : List ℕ) (o : every (λ k. leb (get_or ss k 0) (get_or ls k 0)) n ≡ true)
@@ -35,13 +35,13 @@ module _ (n : ℕ) (ss ls : List ℕ) (o : every (λ k. leb (get_or ss k 0) (get
       ⊎_elim
       (λ e. inl (ltb-true (get_or ls k 0) (get_or ss (k + 1) 0) e))
       (λ e. inr (eqb-true (get_or ss k 0) (get_or ss (k + 1) 0) (both_left (eqb (get_or ss k 0) (get_or ss (k + 1) 0)) _ e), eqb-true (get_or ls k 0) (get_or ls (k + 1) 0) (both_right (eqb (get_or ss k 0) (get_or ss (k + 1) 0)) _ e)))
-      (either_is (ltb (get_or ls k 0) (get_or ss (k + 1) 0)) _ (every-is _ (n - 1) c k (omega arith)))
+      (either_is (ltb (get_or ls k 0) (get_or ss (k + 1) 0)) _ (every_is _ (n - 1) c k (omega arith)))
 
   behind : (i d : ℕ) → i + d < n → Behind i (i + d)
   behind i zero h = let e : i + 0 ≡ i = omega arith in rw e (inr (refl, refl))
   behind i (suc d) h =
       let e : i + suc d ≡ i + d + 1 = omega arith in
-      let s : get_or ss (i + d) 0 ≤ get_or ls (i + d) 0 = leb-true (get_or ss (i + d) 0) (get_or ls (i + d) 0) (every-is _ n o (i + d) (omega arith)) in
+      let s : get_or ss (i + d) 0 ≤ get_or ls (i + d) 0 = leb-true (get_or ss (i + d) 0) (get_or ls (i + d) 0) (every_is _ n o (i + d) (omega arith)) in
       rw e
       (⊎_elim
       (λ a. ⊎_elim (λ b. inl (omega arith)) (λ b. inl (omega (arith, b.0))) (next_behind (i + d) (omega arith)))
@@ -100,5 +100,5 @@ clear_pairs r t e h =
   where
     below : (i j : ℕ) → i < r.count → j ≤ i → clear (start_at r i) (last_at r i) (start_at r j) (last_at r j) ≡ true
     below i j l o =
-        every-is (λ k. clear (start_at r i) (last_at r i) (start_at r k) (last_at r k)) ((i / 8 + 1) * 8)
-        (every-is (λ k. every (λ q. clear (start_at r k) (last_at r k) (start_at r q) (last_at r q)) ((k / 8 + 1) * 8)) r.count (sym e ∙ h) i l) j (omega arith)
+        every_is (λ k. clear (start_at r i) (last_at r i) (start_at r k) (last_at r k)) ((i / 8 + 1) * 8)
+        (every_is (λ k. every (λ q. clear (start_at r k) (last_at r k) (start_at r q) (last_at r q)) ((k / 8 + 1) * 8)) r.count (sym e ∙ h) i l) j (omega arith)

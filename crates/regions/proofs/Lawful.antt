@@ -5,7 +5,7 @@ use lib.Dec.{eqb, ltb}
 use mathlib.Core.Bool.{Bool, false, not, true}
 use mathlib.Core.Path.{refl, ◌∙◌, ◌≡◌}
 use Rattle.basis.proofs.Bounds.{rest_is, rest_of, within_is, within_of}
-use Rattle.basis.proofs.Laws.{both_left, both_of, both_right, every-is, every_of}
+use Rattle.basis.proofs.Laws.{both_left, both_of, both_right, every_is, every_of}
 use Rattle.basis.specs.Bounds.{empty_rest, zeros}
 use Rattle.basis.specs.Choice.{both, either}
 use Rattle.basis.specs.Count.{every, how_many}
@@ -71,18 +71,18 @@ lawful_is vms r e =
     let a = rules_is vms r e in
     record {
       few = leb-true r.count 64 a.count;
-      named = λ k h. ltb-true (holder_at r k) vms (every-is _ r.count a.holders k h);
-      permitted = λ k h. within_is 1 3 (permission_at r k) (every-is _ r.count a.permissions k h);
-      ordered = λ k h. leb-true (start_at r k) (last_at r k) (every-is _ r.count a.ranges k h);
-      each = λ v h. leb-true (held r.holders v r.count) 8 (every-is _ 8 a.few v h);
-      shared = λ i j h l w. alike_is (permission_at r i) (holder_at r i) (start_at r i) (last_at r i) (holder_at r j) (start_at r j) (last_at r j) (every_each (not (may_write (permission_at r i))) _ r.count (every-is _ r.count a.agree i h) j l) w;
-      bytes-empty = λ k h l. (rest_is r.count r.holders (both_left (empty_rest r.count r.holders) _ a.bytes) k h l, rest_is r.count r.permissions (both_right (empty_rest r.count r.holders) _ a.bytes) k h l);
-      words-empty = λ k h l. (rest_is r.count r.starts (both_left (empty_rest r.count r.starts) _ a.words) k h l, rest_is r.count r.lasts (both_right (empty_rest r.count r.starts) _ a.words) k h l);
+      named = λ k h. ltb-true (holder_at r k) vms (every_is _ r.count a.holders k h);
+      permitted = λ k h. within_is 1 3 (permission_at r k) (every_is _ r.count a.permissions k h);
+      ordered = λ k h. leb-true (start_at r k) (last_at r k) (every_is _ r.count a.ranges k h);
+      each = λ v h. leb-true (held r.holders v r.count) 8 (every_is _ 8 a.few v h);
+      shared = λ i j h l w. alike_is (permission_at r i) (holder_at r i) (start_at r i) (last_at r i) (holder_at r j) (start_at r j) (last_at r j) (every_each (not (may_write (permission_at r i))) _ r.count (every_is _ r.count a.agree i h) j l) w;
+      bytes_empty = λ k h l. (rest_is r.count r.holders (both_left (empty_rest r.count r.holders) _ a.bytes) k h l, rest_is r.count r.permissions (both_right (empty_rest r.count r.holders) _ a.bytes) k h l);
+      words_empty = λ k h l. (rest_is r.count r.starts (both_left (empty_rest r.count r.starts) _ a.words) k h l, rest_is r.count r.lasts (both_right (empty_rest r.count r.starts) _ a.words) k h l);
     }
   where
     every_each : (b : Bool) (p : ℕ → Bool) (n : ℕ) → either b (every p n) ≡ true → (k : ℕ) → k < n → either b (p k) ≡ true
     every_each true p n e k h = refl
-    every_each false p n e k h = every-is p n e k h
+    every_each false p n e k h = every_is p n e k h
 
 -- H1 to H6: and regions that keep the rules pass it
 pub lawful_of : (vms : ℕ) (r : Regions) → Lawful vms r → lawful vms r ≡ true
@@ -94,8 +94,8 @@ lawful_of vms r a =
     (both_of (ranges_fit r) _ (every_of _ r.count (λ k h. le-leb (start_at r k) (last_at r k) (a.ordered k h)))
     (both_of (few_each r.count r.holders) _ (every_of _ 8 (λ v h. le-leb (held r.holders v r.count) 8 (a.each v h)))
     (both_of (all_agree r) _ (every_of _ r.count (λ i h. each_every (not (may_write (permission_at r i))) _ r.count (λ j l. alike_of (permission_at r i) (holder_at r i) (start_at r i) (last_at r i) (holder_at r j) (start_at r j) (last_at r j) (a.shared i j h l))))
-    (both_of (bytes_rest r) _ (both_of (empty_rest r.count r.holders) _ (rest_of r.count r.holders (λ k h l. (a.bytes-empty k h l).0)) (rest_of r.count r.permissions (λ k h l. (a.bytes-empty k h l).1)))
-    (both_of (empty_rest r.count r.starts) _ (rest_of r.count r.starts (λ k h l. (a.words-empty k h l).0)) (rest_of r.count r.lasts (λ k h l. (a.words-empty k h l).1)))))))))
+    (both_of (bytes_rest r) _ (both_of (empty_rest r.count r.holders) _ (rest_of r.count r.holders (λ k h l. (a.bytes_empty k h l).0)) (rest_of r.count r.permissions (λ k h l. (a.bytes_empty k h l).1)))
+    (both_of (empty_rest r.count r.starts) _ (rest_of r.count r.starts (λ k h l. (a.words_empty k h l).0)) (rest_of r.count r.lasts (λ k h l. (a.words_empty k h l).1)))))))))
   where
     each_every : (b : Bool) (p : ℕ → Bool) (n : ℕ) → ((k : ℕ) → k < n → either b (p k) ≡ true) → either b (every p n) ≡ true
     each_every true p n f = refl

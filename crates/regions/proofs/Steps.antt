@@ -90,6 +90,6 @@ next_all vms r few each bytes words = record {
               | no o ↦ (let e : i ≡ j = omega arith in absurd (n (rw e)))
             ]
       ];
-  bytes-empty = bytes;
-  words-empty = words;
+  bytes_empty = bytes;
+  words_empty = words;
 }

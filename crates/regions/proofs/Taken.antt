@@ -8,7 +8,7 @@ use mathlib.Core.List.{List}
 use mathlib.Core.Logic.{inl, inr, ◌⊎◌, ⊎_elim}
 use mathlib.Core.Path.{refl, sym, ◌≡◌}
 use native.Mathlib.Omega.{arith}
-use Rattle.basis.proofs.Laws.{both_left, both_of, both_right, every-is, every_of}
+use Rattle.basis.proofs.Laws.{both_left, both_of, both_right, every_is, every_of}
 use Rattle.basis.specs.Choice.{both, either}
 use Rattle.basis.specs.Count.{how_many}
 use Rattle.regions.proofs.Steps.{Next}
@@ -63,25 +63,25 @@ pub record Begins (r t : Regions) : Type 0 where
   pub lasts : (k : ℕ) → k < r.count → last_at r k ≡ last_at t k
 
 module _ (vms : ℕ) (r t : Regions) (b : Begins r t) where
-  pub next-taken : holder_at t r.count < vms → held r.holders (holder_at t r.count) r.count < 8
+  pub next_taken : holder_at t r.count < vms → held r.holders (holder_at t r.count) r.count < 8
       → (1 ≤ permission_at t r.count) × (permission_at t r.count ≤ 3) → start_at t r.count ≤ last_at t r.count
       → agrees_all r (holder_at t r.count) (permission_at t r.count) (start_at t r.count) (last_at t r.count) ≡ true
       → Next vms t r.count
   unfolding agrees_all
-  next-taken h m p o a = record {
+  next_taken h m p o a = record {
     named = h;
     room = rw (held_same r.holders t.holders (holder_at t r.count) r.count b.holders) at m;
     permitted = p;
     ordered = o;
     beside = λ j l. agrees_is (permission_at t r.count) (holder_at t r.count) (start_at t r.count) (last_at t r.count) (permission_at t j) (holder_at t j) (start_at t j) (last_at t j)
-        (rw (b.permissions j l, b.holders j l, b.starts j l, b.lasts j l) at (every-is _ r.count a j l));
+        (rw (b.permissions j l, b.holders j l, b.starts j l, b.lasts j l) at (every_is _ r.count a j l));
   }
 
-  pub next-agrees : Next vms t r.count → agrees_all r (holder_at t r.count) (permission_at t r.count) (start_at t r.count) (last_at t r.count) ≡ true
+  pub next_agrees : Next vms t r.count → agrees_all r (holder_at t r.count) (permission_at t r.count) (start_at t r.count) (last_at t r.count) ≡ true
   unfolding agrees_all
-  next-agrees n =
+  next_agrees n =
       every_of _ r.count (λ j l. rw (b.permissions j l, b.holders j l, b.starts j l, b.lasts j l)
       (agrees_of (permission_at t r.count) (holder_at t r.count) (start_at t r.count) (last_at t r.count) (permission_at t j) (holder_at t j) (start_at t j) (last_at t j) (n.beside j l)))
 
-  pub next-room : Next vms t r.count → held r.holders (holder_at t r.count) r.count < 8
-  next-room n = rw (held_same r.holders t.holders (holder_at t r.count) r.count b.holders) n.room
+  pub next_room : Next vms t r.count → held r.holders (holder_at t r.count) r.count < 8
+  next_room n = rw (held_same r.holders t.holders (holder_at t r.count) r.count b.holders) n.room

@@ -116,5 +116,5 @@ pub record Lawful (vms : ℕ) (r : Regions) : Type 0 where
   pub shared : (i j : ℕ) → i < r.count → j < r.count
       → permission_at r i ≡ 2 → (holder_at r i ≡ holder_at r j → ⊥) → start_at r i ≤ last_at r j → start_at r j ≤ last_at r i
       → (start_at r i ≡ start_at r j) × (last_at r i ≡ last_at r j)
-  pub bytes-empty : (k : ℕ) → r.count ≤ k → k < 64 → (holder_at r k ≡ 0) × (permission_at r k ≡ 0)
-  pub words-empty : (k : ℕ) → r.count ≤ k → k < 64 → (start_at r k ≡ 0) × (last_at r k ≡ 0)
+  pub bytes_empty : (k : ℕ) → r.count ≤ k → k < 64 → (holder_at r k ≡ 0) × (permission_at r k ≡ 0)
+  pub words_empty : (k : ℕ) → r.count ≤ k → k < 64 → (start_at r k ≡ 0) × (last_at r k ≡ 0)

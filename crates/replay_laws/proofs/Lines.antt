@@ -38,19 +38,19 @@ module _ (f : Stepping) (states : Bool) (s : List ℕ) where
       go more (Refuse r o) q = refl
 
   -- an event's text, and then the text of the rest
-  pub log-take : (c : Core) (at n to : ℕ) (e : Event) (d : Stepped) → read_at s at ≡ Take e to → d ≡ f c e
+  pub log_take : (c : Core) (at n to : ℕ) (e : Event) (d : Stepped) → read_at s at ≡ Take e to → d ≡ f c e
       → log_text f states s c at n ≡ event_text states n d ++ log_text f states s d.core to (n + 1)
   unfolding lines_by onward
-  log-take c at n to e d q h =
+  log_take c at n to e d q h =
       let i = take_inside s at e to q in
       rw (h, q) (ap (λ (t : List ℕ). event_text states n (f c e) ++ t) (lines_enough (length s) (suc (length s)) (f c e).core to (n + 1) (omega (arith, i.0)) (omega (arith, i.0))))
 
   -- at its end nothing more is printed, so nothing of a log without bytes, as a file that does not open has (N8)
-  pub log-end : (c : Core) (at n : ℕ) → read_at s at ≡ End → log_text f states s c at n ≡ []
+  pub log_end : (c : Core) (at n : ℕ) → read_at s at ≡ End → log_text f states s c at n ≡ []
   unfolding lines_by onward
-  log-end c at n q = rw q
+  log_end c at n q = rw q
 
   -- N7
-  pub log-cut : (c : Core) (at n r o : ℕ) → read_at s at ≡ Refuse r o → log_text f states s c at n ≡ cut_text n
+  pub log_cut : (c : Core) (at n r o : ℕ) → read_at s at ≡ Refuse r o → log_text f states s c at n ≡ cut_text n
   unfolding lines_by onward
-  log-cut c at n r o q = rw q
+  log_cut c at n r o q = rw q

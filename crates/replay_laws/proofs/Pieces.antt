@@ -22,7 +22,7 @@ use Rattle.replay.specs.Run.{Stepping, log_text, text_by, text_from}
 use Rattle.replay.specs.declared.Place.{Place}
 use Rattle.replay.specs.declared.Stage.TheVariants.{Ended, Long, Refused, Running}
 use Rattle.replay.specs.declared.Stage.{Stage}
-use Rattle.replay_laws.proofs.Lines.{log-cut, log-end, log-take}
+use Rattle.replay_laws.proofs.Lines.{log_cut, log_end, log_take}
 use Rattle.replay_laws.specs.Fillings.{fillings}
 use Rattle.state_lines.specs.State.{event_text}
 
@@ -43,14 +43,14 @@ module _ (f : Stepping) (states : Bool) (s : List ℕ) where
           let x = pieces_by f states s k (f c e).core to (n + 1) (left - length v) in
           append_assoc v x.text (text_from f states s x.place)
           ∙ ap (λ (t : List ℕ). v ++ t) (more (f c e).core to (left - length v))
-          ∙ sym (log-take f states s c at n to e (f c e) q refl)
-      go more End q = sym (log-end f states s c at n q)
-      go more (Refuse r o) q = append-nil (cut_text n) ∙ sym (log-cut f states s c at n r o q)
+          ∙ sym (log_take f states s c at n to e (f c e) q refl)
+      go more End q = sym (log_end f states s c at n q)
+      go more (Refuse r o) q = append-nil (cut_text n) ∙ sym (log_cut f states s c at n r o q)
 
   -- one filling
-  pub piece-split : (size : ℕ) (p : Place) → (piece_by f states s size p).text ++ text_from f states s (piece_by f states s size p).place ≡ text_from f states s p
+  pub piece_split : (size : ℕ) (p : Place) → (piece_by f states s size p).text ++ text_from f states s (piece_by f states s size p).place ≡ text_from f states s p
   unfolding piece_by stage_piece text_by
-  piece-split size p = pick_case (Split (text_from f states s p)) (ltb size enough) _ _ (λ t. refl) (λ t. go p.stage)
+  piece_split size p = pick_case (Split (text_from f states s p)) (ltb size enough) _ _ (λ t. refl) (λ t. go p.stage)
     where
       go : (g : Stage) → Split (text_by f states s p.core p.at p.number g) (stage_piece f states s size p.core p.at p.number g)
       go (Refused fault offset) = append-nil (refused_text fault offset)
@@ -59,15 +59,15 @@ module _ (f : Stepping) (states : Bool) (s : List ℕ) where
       go Ended = refl
 
   -- any number of them
-  pub fillings-split : (size k : ℕ) (p : Place) → (fillings f states s size k p).text ++ text_from f states s (fillings f states s size k p).place ≡ text_from f states s p
+  pub fillings_split : (size k : ℕ) (p : Place) → (fillings f states s size k p).text ++ text_from f states s (fillings f states s size k p).place ≡ text_from f states s p
   unfolding fillings
-  fillings-split size zero p = refl
-  fillings-split size (suc k) p =
+  fillings_split size zero p = refl
+  fillings_split size (suc k) p =
       let x = piece_by f states s size p in
       let y = fillings f states s size k x.place in
       append_assoc x.text y.text (text_from f states s y.place)
-      ∙ ap (λ (t : List ℕ). x.text ++ t) (fillings-split size k x.place)
-      ∙ piece-split size p
+      ∙ ap (λ (t : List ℕ). x.text ++ t) (fillings_split size k x.place)
+      ∙ piece_split size p
 
 -- what the code put: the piece's text stands at the buffer's front, as far as the answer says
 pub filled_front : (g : Piece) (b m : List ℕ) (t : Turn) → Filled g b m t → take t.used m ≡ g.text

@@ -15,8 +15,8 @@ use Rattle.replay.specs.Piece.{enough, piece_by, stage_piece}
 use Rattle.replay.specs.Run.{Stepping, is_over, judged_as, run_by, run_text, start_of, state_run_text, text_by, text_from}
 use Rattle.replay.specs.declared.Place.{Place}
 use Rattle.replay.specs.declared.Stage.TheVariants.{Ended}
-use Rattle.replay_laws.proofs.Pieces.{fillings-split}
-use Rattle.replay_laws.proofs.Progress.{fillings-end, fillings-stay}
+use Rattle.replay_laws.proofs.Pieces.{fillings_split}
+use Rattle.replay_laws.proofs.Progress.{fillings_end, fillings_stay}
 use Rattle.replay_laws.proofs.Whole.{runs_alike}
 use Rattle.replay_laws.specs.Fillings.{fillings, printed}
 
@@ -32,11 +32,11 @@ over_by states image log size zero r z h = absurd (omega arith)
 over_by states image log size (suc k) r z h = go (eqb (read_image image).fault 0) refl (ltb longest (length log)) refl
   where
     go : (a : Bool) → eqb (read_image image).fault 0 ≡ a → (b : Bool) → ltb longest (length log) ≡ b → (printed states image log size (suc k)).place.stage ≡ Ended
-    go false e b i = fillings-stay inner_of states log size r k _ (rw (le-ltb size enough r, e))
-    go true e true i = fillings-stay inner_of states log size r k _ (rw (le-ltb size enough r, e, i))
+    go false e b i = fillings_stay inner_of states log size r k _ (rw (le-ltb size enough r, e))
+    go true e true i = fillings_stay inner_of states log size r k _ (rw (le-ltb size enough r, e, i))
     go true e false i =
         let w = ltb-false longest (length log) i in
-        fillings-end inner_of states log size r (suc k) 0 (start_of image log) (omega (arith, w))
+        fillings_end inner_of states log size r (suc k) 0 (start_of image log) (omega (arith, w))
         (record { stage = rw (e, i); past = omega arith; inside = omega arith; counted = omega arith }) (omega (arith, h w))
 
 -- the run is over, and the texts of the fillings, one after the other, are the text of the rules
@@ -47,7 +47,7 @@ all_by : (states : Bool) (image log : List ℕ) (size k : ℕ) → Bytes image �
 unfolding is_over
 all_by states image log size k b e =
     let p = printed states image log size k in
-    (sym (ended_text inner_of states log p.text p.place e) ∙ fillings-split inner_of states log size k (start_of image log) ∙ runs_alike states image log b, rw e)
+    (sym (ended_text inner_of states log p.text p.place e) ∙ fillings_split inner_of states log size k (start_of image log) ∙ runs_alike states image log b, rw e)
 
 -- N1 to N7, for every image, every log and every buffer of 2,048 bytes or more: it is so after more fillings than the log has bytes
 pub all_printed : (states : Bool) (image log : List ℕ) (size k : ℕ) → Bytes image → 2048 ≤ size → length log < k → AllPrinted states image log size k

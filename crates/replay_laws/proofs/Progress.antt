@@ -64,23 +64,23 @@ module _ (f : Stepping) (states : Bool) (s : List ℕ) where
 
   module _ (size : ℕ) (roomy : 2048 ≤ size) where
     -- one filling: it reaches the end, or a place further on
-    pub piece-goes : (from : ℕ) (p : Place) → length s < 4294967294 → On s from p → Went s (p.at + 1) (piece_by f states s size p).place
+    pub piece_goes : (from : ℕ) (p : Place) → length s < 4294967294 → On s from p → Went s (p.at + 1) (piece_by f states s size p).place
     unfolding piece_by stage_piece goes_on
-    piece-goes from p l h =
+    piece_goes from p l h =
         let g : goes_on p.number size ≡ true = both_of (ltb p.number 4294967295) (leb enough size) (lt-ltb p.number 4294967295 (omega (arith, h.counted, h.inside))) (le-leb enough size roomy) in
         rw (le-ltb size enough roomy, h.stage) (went_on (length s) p.core p.at p.number size h.inside h.counted g)
 
     -- the end stays
-    pub fillings-stay : (k : ℕ) (p : Place) → p.stage ≡ Ended → (fillings f states s size k p).place.stage ≡ Ended
+    pub fillings_stay : (k : ℕ) (p : Place) → p.stage ≡ Ended → (fillings f states s size k p).place.stage ≡ Ended
     unfolding fillings piece_by stage_piece
-    fillings-stay zero p e = e
-    fillings-stay (suc k) p e = fillings-stay k (piece_by f states s size p).place (rw (le-ltb size enough roomy, e))
+    fillings_stay zero p e = e
+    fillings_stay (suc k) p e = fillings_stay k (piece_by f states s size p).place (rw (le-ltb size enough roomy, e))
 
-    pub fillings-end : (k from : ℕ) (p : Place) → length s < 4294967294 → On s from p → length s < p.at + k → (fillings f states s size k p).place.stage ≡ Ended
+    pub fillings_end : (k from : ℕ) (p : Place) → length s < 4294967294 → On s from p → length s < p.at + k → (fillings f states s size k p).place.stage ≡ Ended
     unfolding fillings
-    fillings-end zero from p l h m = absurd (omega (arith, h.inside))
-    fillings-end (suc k) from p l h m =
+    fillings_end zero from p l h m = absurd (omega (arith, h.inside))
+    fillings_end (suc k) from p l h m =
         ⊎_elim
-        (λ e. fillings-stay k (piece_by f states s size p).place e)
-        (λ x. fillings-end k (p.at + 1) (piece_by f states s size p).place l x (omega (arith, x.past)))
-        (piece-goes from p l h)
+        (λ e. fillings_stay k (piece_by f states s size p).place e)
+        (λ x. fillings_end k (p.at + 1) (piece_by f states s size p).place l x (omega (arith, x.past)))
+        (piece_goes from p l h)

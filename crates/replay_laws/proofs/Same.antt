@@ -41,9 +41,9 @@ module _ (f g : Stepping) (P : Core → Type 0) (agree : (c : Core) (e : Event) 
       go Ended = refl
 
   -- from the front: an accepted image is enough, as nothing is run on a refused one
-  pub run-same : (states : Bool) (image log : List ℕ) → ((read_image image).fault ≡ 0 → P (fresh_core (read_image image).config)) → run_by f states image log ≡ run_by g states image log
+  pub run_same : (states : Bool) (image log : List ℕ) → ((read_image image).fault ≡ 0 → P (fresh_core (read_image image).config)) → run_by f states image log ≡ run_by g states image log
   unfolding text_by start_of judged_as
-  run-same states image log h = go (eqb (read_image image).fault 0) refl
+  run_same states image log h = go (eqb (read_image image).fault 0) refl
     where
       go : (b : Bool) → eqb (read_image image).fault 0 ≡ b → run_by f states image log ≡ run_by g states image log
       go true e = text_same states log (start_of image log) (h (eqb-true (read_image image).fault 0 e))

@@ -51,18 +51,18 @@ use Rattle.window.specs.declared.Window.{Window}
 -- ---- refused, or done
 
 module _ (c : Core) (n : ℕ) where
-  pub kept-is : (n ≡ 1 → ⊥) → kept c n ≡ parts_of (refused c n)
+  pub kept_is : (n ≡ 1 → ⊥) → kept c n ≡ parts_of (refused c n)
   unfolding refused
-  kept-is h = rw (ne_eqb n 1 h)
+  kept_is h = rw (ne_eqb n 1 h)
 
 module _ (c : Core) (e : Event) (n : ℕ) (r : After) (row : n ≡ row_of c e) where
   after_refused : (n ≡ 0 → ⊥) → (n ≡ 1 → ⊥) → r ≡ kept c n → r ≡ parts_of (inner_of c e)
   unfolding inner_of
-  after_refused h k f = rw (← row, ne_eqb n 0 h) (f ∙ kept-is c n k)
+  after_refused h k f = rw (← row, ne_eqb n 0 h) (f ∙ kept_is c n k)
 
-  pub after-done : n ≡ 0 → r ≡ parts_of (done c e) → r ≡ parts_of (inner_of c e)
+  pub after_done : n ≡ 0 → r ≡ parts_of (done c e) → r ≡ parts_of (inner_of c e)
   unfolding inner_of
-  after-done h f = rw (← row, eq-eqb n 0 h) f
+  after_done h f = rw (← row, eq-eqb n 0 h) f
 
 -- R1: on a sound state the inner event is the event; any other is refused with 1
 pub step_sound : (c : Core) (e : Event) → sound c ≡ true → step_of c e ≡ inner_of c e
@@ -75,8 +75,8 @@ unfolding step_of refusal_of
 step_unsound c e h = rw h
 
 module _ (c : Core) (e : Event) (b : Bool) (r : Stepped) (test : b ≡ sound c) where
-  pub step-goes : b ≡ true → r ≡ inner_of c e → r ≡ step_of c e
-  step-goes h f = f ∙ sym (step_sound c e (sym test ∙ h))
+  pub step_goes : b ≡ true → r ≡ inner_of c e → r ≡ step_of c e
+  step_goes h f = f ∙ sym (step_sound c e (sym test ∙ h))
 
   pub step_stays : b ≡ false → r ≡ refused c 1 → r ≡ step_of c e
   step_stays h f = f ∙ sym (step_unsound c e (sym test ∙ h))
@@ -240,9 +240,9 @@ module _ (c : Core) (e : Event) where
 
   applied_not : (n : ℕ) → n ≡ row_of c e → (n ≡ 0 → ⊥) → applied c at_place n (renewed_from c.running c.queue at_place (vm_at c at_place) nobody) ≡ parts_of (change_in c e)
   unfolding change_in
-  applied_not n h z = rw (set-get_or c.vms at_place fresh, ← h, ne_eqb n 0 z) (kept-is c n (λ o. not_1 c e (sym h ∙ o)))
+  applied_not n h z = rw (set-get_or c.vms at_place fresh, ← h, ne_eqb n 0 z) (kept_is c n (λ o. not_1 c e (sym h ∙ o)))
 
-  pub change-law : (q : Queue) (place n entry handler address : ℕ) (vm y : Vm) (ready : Bool) (d : Change) (a : Answer) → length c.vms ≡ 8
+  pub change_law : (q : Queue) (place n entry handler address : ℕ) (vm y : Vm) (ready : Bool) (d : Change) (a : Answer) → length c.vms ≡ 8
       → q ≡ c.queue → place ≡ at_place → vm ≡ pick (ltb place 8) (get_or c.vms (place % 8) fresh) fresh → ready ≡ is_ready vm
       → n ≡ row_from e c.clock.started c.config.count c.running ready c.config.room q.len
       → entry ≡ get_or c.config.entries place 0 → handler ≡ get_or c.config.handlers place 0
@@ -251,7 +251,7 @@ module _ (c : Core) (e : Event) where
       → address ≡ pick (ltb d.running 8) (get_or (set c.vms (place % 8) y) (d.running % 8) fresh).address 0
       → a ≡ answer_by d n d.running address
       → record { vms = set c.vms (place % 8) y; clock = c.clock; running = d.running; queue = d.queue; answer = a } ≡ parts_of (change_in c e)
-  change-law q place n entry handler address vm y ready d a long hq hp hvm hready hn hentry hhandler hd hy haddress ha =
+  change_law q place n entry handler address vm y ready d a long hq hp hvm hready hn hentry hhandler hd hy haddress ha =
       let st : set c.vms (place % 8) y ≡ set c.vms place d.vm = store_law c.vms place long d.vm y hy in
       let ad = address_law (set c.vms place d.vm) d.running (length-set c.vms place d.vm ∙ long) address (rw st at haddress) in
       let old : vm ≡ vm_at c place = read_law c.vms place long vm hvm in

@@ -29,15 +29,15 @@ mod_wrap : (n t : ℕ) → n % t + 1 ≡ t → (n + 1) % t ≡ 0
 mod_wrap n t e = sym (mod-add-mod n t 1) ∙ ap (λ (x : ℕ). x % t) e ∙ mod_self t
 
 module _ (g : Config) where
-  pub to-more : (i : ℕ) → length (table_to g (suc i)) ≡ length (table_to g i) + duration_at g i
+  pub to_more : (i : ℕ) → length (table_to g (suc i)) ≡ length (table_to g i) + duration_at g i
   unfolding table_to joined
-  to-more i = simp (length-append, length-replicate)
+  to_more i = simp (length-append, length-replicate)
 
-  pub to-grows : (n i : ℕ) → i ≤ n → length (table_to g i) ≤ length (table_to g n)
-  to-grows zero i h = let e : i ≡ 0 = omega arith in rw e (omega arith)
-  to-grows (suc n) i h =
+  pub to_grows : (n i : ℕ) → i ≤ n → length (table_to g i) ≤ length (table_to g n)
+  to_grows zero i h = let e : i ≡ 0 = omega arith in rw e (omega arith)
+  to_grows (suc n) i h =
       elim (dec_lt i (suc n)) [
-        | yes l ↦ omega (arith, to-grows n i (omega arith), to-more n)
+        | yes l ↦ omega (arith, to_grows n i (omega arith), to_more n)
         | no l ↦ (let e : i ≡ suc n = omega arith in rw e (omega arith))
       ]
 
@@ -48,7 +48,7 @@ module _ (g : Config) where
   at_slot (suc n) i j h l =
       elim (dec_lt i n) [
         | yes k ↦
-            get_or-append (table_to g n) _ nobody (length (table_to g i) + j) (omega (arith, to-more i, to-grows n (suc i) (omega arith))) ∙ at_slot n i j k l
+            get_or-append (table_to g n) _ nobody (length (table_to g i) + j) (omega (arith, to_more i, to_grows n (suc i) (omega arith))) ∙ at_slot n i j k l
         | no k ↦
             (let e : i ≡ n = omega arith in
             rw e (get_or-append-add (table_to g n) (replicate (duration_at g n) (owner_at g n)) j nobody ∙ get_or-replicate (duration_at g n) j (owner_at g n) nobody (rw e at l)))
@@ -68,7 +68,7 @@ module _ (g : Config) (l : Legal g) where
 
   -- the table has a tick
   sum_some : 0 < sum_of g
-  sum_some = omega (arith, duration_some g l 0 (omega (arith, l.table.0)), to-more g 0, to-grows g g.slots 1 (omega (arith, l.table.0)))
+  sum_some = omega (arith, duration_some g l 0 (omega (arith, l.table.0)), to_more g 0, to_grows g g.slots 1 (omega (arith, l.table.0)))
 
   to_none : length (table_to g 0) ≡ 0
   unfolding table_to joined
@@ -84,15 +84,15 @@ module _ (g : Config) (l : Legal g) where
   placed_first h t = rw t (entered 0 0 h (omega (arith, l.table.0)) (to_none ∙ sym (mod-eq_of_lt sum_some)))
 
   -- D5, D10: each later tick goes on by one
-  pub placed-next : (k : ℕ) (h : Clock) → Placed g k h → Placed g (suc k) (next_clock g.slots g.durations h)
+  pub placed_next : (k : ℕ) (h : Clock) → Placed g k h → Placed g (suc k) (next_clock g.slots g.durations h)
   unfolding next_clock
-  placed-next k h p = rw p.ticked (pick_case (Placed g (suc k)) (ltb 1 h.left) _ _ less (λ t. over t (ltb (h.slot + 1) g.slots) refl))
+  placed_next k h p = rw p.ticked (pick_case (Placed g (suc k)) (ltb 1 h.left) _ _ less (λ t. over t (ltb (h.slot + 1) g.slots) refl))
     where
       more : length (table_to g (suc h.slot)) ≡ length (table_to g h.slot) + duration_at g h.slot
-      more = to-more g h.slot
+      more = to_more g h.slot
 
       fits : length (table_to g (suc h.slot)) ≤ sum_of g
-      fits = to-grows g g.slots (suc h.slot) (omega (arith, p.slot))
+      fits = to_grows g g.slots (suc h.slot) (omega (arith, p.slot))
 
       less : ltb 1 h.left ≡ true → Placed g (suc k) (one_less h)
       less t =
@@ -108,8 +108,8 @@ module _ (g : Config) (l : Legal g) where
       over t true i =
           let s : h.slot + 1 < g.slots = ltb-true (h.slot + 1) g.slots i in
           let j : suc h.slot ≡ h.slot + 1 = omega arith in
-          let far = to-grows g g.slots (suc (suc h.slot)) (omega (arith, s)) in
-          let room = to-more g (suc h.slot) in
+          let far = to_grows g g.slots (suc (suc h.slot)) (omega (arith, s)) in
+          let room = to_more g (suc h.slot) in
           let one : 1 ≤ duration_at g (suc h.slot) = duration_some g l (suc h.slot) (omega (arith, s)) in
           let low : k % sum_of g + 1 < sum_of g = omega (arith, last t, far, room, one) in
           let up : suc k % sum_of g ≡ k % sum_of g + 1 = ap (λ (x : ℕ). x % sum_of g) (sym (add-one k)) ∙ mod_up k (sum_of g) low in
@@ -121,9 +121,9 @@ module _ (g : Config) (l : Legal g) where
           entered (suc k) 0 h (omega (arith, l.table.0)) (to_none ∙ sym up)
 
   -- so the tick after k accepted ones stands at table tick k
-  pub placed-then : (k : ℕ) (h : Clock) → Stands g k h → Placed g k (next_clock g.slots g.durations h)
-  placed-then zero h p = placed_first h p
-  placed-then (suc k) h p = placed-next k h p
+  pub placed_then : (k : ℕ) (h : Clock) → Stands g k h → Placed g k (next_clock g.slots g.durations h)
+  placed_then zero h p = placed_first h p
+  placed_then (suc k) h p = placed_next k h p
 
 -- what does not move the table
 pub placed_same : (g : Config) (k : ℕ) (h j : Clock) → SamePlace h j → Placed g k j → Placed g k h

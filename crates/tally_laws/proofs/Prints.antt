@@ -17,7 +17,7 @@ use Rattle.rig_core.specs.Events.{step_of}
 use Rattle.rig_core.specs.State.{fresh_core}
 use Rattle.rig_core.specs.declared.Core.{Core}
 use Rattle.event.specs.declared.Event.{Event}
-use Rattle.events.proofs.Log.{events-few}
+use Rattle.events.proofs.Log.{events_few}
 use Rattle.events.specs.Log.{events_from, longest}
 use Rattle.history.proofs.Counts.{num, times_cons, times_nil}
 use Rattle.history.specs.History.{Behaviour, Moment, history, moment, moments, ticking, ticks_after, times}
@@ -59,7 +59,7 @@ module _ (b : Behaviour) (g : Config) where
     where
       go : (t : Bool) → ltb longest (length s) ≡ t → length (pick t [] (history b g (events_from s 0))) ≤ longest
       go true q = omega arith
-      go false q = omega (arith, moments_length b 0 (fresh_core g) (events_from s 0), events-few s, ltb-false longest (length s) q)
+      go false q = omega (arith, moments_length b 0 (fresh_core g) (events_from s 0), events_few s, ltb-false longest (length s) q)
 
   happens_all : (logs : List (List ℕ)) → length (happens_in b g logs) ≤ length logs * longest
   unfolding happens_in
@@ -67,8 +67,8 @@ module _ (b : Behaviour) (g : Config) where
   happens_all (s ∷ logs) = omega (arith, length-append (happens b g s) (happens_in b g logs), happens_most s, happens_all logs)
 
   -- so whatever is counted over sixteen logs is far below 2^32
-  pub never-wraps : (p : Moment → Bool) (logs : List (List ℕ)) → length logs ≤ 16 → times p (happens_in b g logs) ≤ 16 * longest
-  never-wraps p logs h = omega (arith, times_most p (happens_in b g logs), happens_all logs)
+  pub never_wraps : (p : Moment → Bool) (logs : List (List ℕ)) → length logs ≤ 16 → times p (happens_in b g logs) ≤ 16 * longest
+  never_wraps p logs h = omega (arith, times_most p (happens_in b g logs), happens_all logs)
 
 -- ---- numbers that grow
 
@@ -164,7 +164,7 @@ report_prints image y logs h = go (eqb (read_image image).fault 0) refl
         let d = given image y e in
         rw (logs_all image e logs no_tally)
         (figures_text_lem (read_image image).config (happens_in step_of (read_image image).config logs) (legal_is (read_image image).config d.legal).vms.1
-        (λ p. omega (arith, never-wraps step_of (read_image image).config p logs h)))
+        (λ p. omega (arith, never_wraps step_of (read_image image).config p logs h)))
     go false q = refl
 
 -- N13, N18, N21: whatever the logs were, what is then shown is their report

@@ -22,13 +22,13 @@ use Rattle.rig_core.specs.State.{fresh_core, ready_at}
 use Rattle.rig_core.specs.declared.Core.{Core}
 use Rattle.core_laws.proofs.Always.{Good, good_fresh, good_step}
 use Rattle.core_laws.proofs.Events.{runner_facts}
-use Rattle.core_laws.proofs.Facts.{ready-below}
+use Rattle.core_laws.proofs.Facts.{ready_below}
 use Rattle.event.specs.declared.Event.{Event}
 use Rattle.events.specs.Log.{events_from, longest}
 use Rattle.history.proofs.Counts.{num, times_cons, times_nil}
 use Rattle.history.proofs.Lawful.{lawful, runner_by}
-use Rattle.history.proofs.Steps.{Reached, at_fresh, each_of, step-at}
-use Rattle.history.proofs.Ticking.{named-runs}
+use Rattle.history.proofs.Steps.{Reached, at_fresh, each_of, step_at}
+use Rattle.history.proofs.Ticking.{named_runs}
 use Rattle.history.specs.History.{Each, Moment, history, moment, ticking, ticks_after, times}
 use Rattle.history.specs.Moments.{naming}
 use Rattle.table.specs.Place.{table_at}
@@ -172,21 +172,21 @@ module _ (g : Config) (few : g.count ≤ 8) (m : Moment) where
 -- ---- many moments
 
 module _ (g : Config) where
-  abbrev served-in : List Moment → ℕ → ℕ
-  served-in ms v = times (table_tick g v) ms + times (spare_tick g v) ms
+  abbrev served_in : List Moment → ℕ → ℕ
+  served_in ms v = times (table_tick g v) ms + times (spare_tick g v) ms
 
   adds_all : (ms : List Moment) → Each (AddsOne g) ms → Adds g ms
   adds_all [] h =
-      let none : total (served-in []) g.count ≡ 0 = total_same (served-in []) (λ v. 0) g.count (λ v l. omega (arith, times_nil (table_tick g v), times_nil (spare_tick g v))) ∙ total_none g.count in
+      let none : total (served_in []) g.count ≡ 0 = total_same (served_in []) (λ v. 0) g.count (λ v l. omega (arith, times_nil (table_tick g v), times_nil (spare_tick g v))) ∙ total_none g.count in
       record {
         all = omega (arith, none, times_nil idle_tick, times_nil ticking);
         named = λ v l. omega (arith, times_nil (table_tick g v), times_nil (missed_tick g v), times_nil (naming g v));
       }
   adds_all (m ∷ ms) h =
       let r = adds_all ms h.1 in
-      let sum : total (served-in (m ∷ ms)) g.count ≡ total (served g m) g.count + total (served-in ms) g.count =
-      total_same (served-in (m ∷ ms)) (λ v. served g m v + served-in ms v) g.count (λ v l. omega (arith, times_cons (table_tick g v) m ms, times_cons (spare_tick g v) m ms))
-      ∙ total_add (served g m) (served-in ms) g.count
+      let sum : total (served_in (m ∷ ms)) g.count ≡ total (served g m) g.count + total (served_in ms) g.count =
+      total_same (served_in (m ∷ ms)) (λ v. served g m v + served_in ms v) g.count (λ v l. omega (arith, times_cons (table_tick g v) m ms, times_cons (spare_tick g v) m ms))
+      ∙ total_add (served g m) (served_in ms) g.count
       in
       record {
         all = omega (arith, sum, h.0.all, r.all, times_cons idle_tick m ms, times_cons ticking m ms);
@@ -205,7 +205,7 @@ module _ (g : Config) (d : Given g) where
     pub good : Good c
 
   stays_step : (k : ℕ) (c : Core) → Stays k c → (e : Event) → Stays (ticks_after (moment step_of k c e)) (step_of c e).core
-  stays_step k c s e = record { reached = step-at g d k c s.reached e; good = good_step c e s.good }
+  stays_step k c s e = record { reached = step_at g d k c s.reached e; good = good_step c e s.good }
 
   stays_fresh : Stays 0 (fresh_core g)
   stays_fresh = record { reached = at_fresh g d; good = good_fresh g d.legal d.sized }
@@ -221,15 +221,15 @@ module _ (g : Config) (d : Given g) where
         | yes i ↦ inl i
         | no i ↦
             (let f = runner_facts c s.good.shaped s.good.facts (table_at g k) (λ z. i (q ∙ z)) in
-            inr (omega (arith, q, ready-below c s.good.shaped.records s.good.facts (runner_by c (table_at g k)) f.0, ap (λ (x : Config). x.count) s.reached.same), rw (← q) at f.1))
+            inr (omega (arith, q, ready_below c s.good.shaped.records s.good.facts (runner_by c (table_at g k)) f.0, ap (λ (x : Config). x.count) s.reached.same), rw (← q) at f.1))
       ]
 
   run_one : (es : List Event) → Each (AddsOne g) (history step_of g es)
   run_one es = each_of step_of Stays stays_step (AddsOne g) (λ k c s e. adds_one g few (moment step_of k c e) (fits k c s e)) es 0 (fresh_core g) stays_fresh
 
   -- N16, N17: over every run of events
-  pub run-adds : (es : List Event) → Adds g (history step_of g es)
-  run-adds es = adds_all g (history step_of g es) (run_one es)
+  pub run_adds : (es : List Event) → Adds g (history step_of g es)
+  run_adds es = adds_all g (history step_of g es) (run_one es)
 
   logs_one : (logs : List (List ℕ)) → Each (AddsOne g) (happens_in step_of g logs)
   unfolding happens_in happens
@@ -241,13 +241,13 @@ module _ (g : Config) (d : Given g) where
       here false = run_one (events_from s 0)
 
   -- N14, N16, N17: and over all logs of a report
-  pub report-adds : (logs : List (List ℕ)) → Adds g (happens_in step_of g logs)
-  report-adds logs = adds_all g (happens_in step_of g logs) (logs_one logs)
+  pub report_adds : (logs : List (List ℕ)) → Adds g (happens_in step_of g logs)
+  report_adds logs = adds_all g (happens_in step_of g logs) (logs_one logs)
 
   -- N17: what is counted as missed was missed because the VM was not ready
-  pub missed-unready : (v : ℕ) → v < g.count → (es : List Event) → Each (Unready g v) (history step_of g es)
+  pub missed_unready : (v : ℕ) → v < g.count → (es : List Event) → Each (Unready g v) (history step_of g es)
   unfolding missed_tick
-  missed-unready v h es = each_of step_of Stays stays_step (Unready g v) one es 0 (fresh_core g) stays_fresh
+  missed_unready v h es = each_of step_of Stays stays_step (Unready g v) one es 0 (fresh_core g) stays_fresh
     where
       one : (k : ℕ) (c : Core) → Stays k c → (e : Event) → Unready g v (moment step_of k c e)
       one k c s e missed = go (ready_at c v) refl
@@ -261,6 +261,6 @@ module _ (g : Config) (d : Given g) where
           go : (b : Bool) → ready_at c v ≡ b → ready_at c v ≡ false
           go true r =
               let small : v < nobody = omega (arith, h, few) in
-              let runs : (moment step_of k c e).answer.running ≡ v = eqb-true (moment step_of k c e).answer.running v (named-runs g v small (moment step_of k c e) (lawful g d k c s.reached e) named r) in
+              let runs : (moment step_of k c e).answer.running ≡ v = eqb-true (moment step_of k c e).answer.running v (named_runs g v small (moment step_of k c e) (lawful g d k c s.reached e) named r) in
               absurd (omega (arith, idle, runs, small))
           go false r = r

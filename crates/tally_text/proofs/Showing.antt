@@ -28,10 +28,10 @@ unfolding shown_in put_all
 shown_none {b} image t h = rw (lt-ltb (length b) enough h) (record { bytes = refl; next = refl })
 
 module _ {b m : List ℕ} {j : ℕ} (image : List ℕ) (t : Tally) (room : enough ≤ length b) {r : Reading} (k : r ≡ read_image image) where
-  pub shown-refused : (r.fault ≡ 0 → ⊥) → Puts (refused_text r.fault r.offset) b 0 m j → Puts (shown_in (length b) image t) b 0 m j
+  pub shown_refused : (r.fault ≡ 0 → ⊥) → Puts (refused_text r.fault r.offset) b 0 m j → Puts (shown_in (length b) image t) b 0 m j
   unfolding shown_in shown_text
-  shown-refused h p = rw (le-ltb (length b) enough room, ← k, ne_eqb r.fault 0 h) p
+  shown_refused h p = rw (le-ltb (length b) enough room, ← k, ne_eqb r.fault 0 h) p
 
-  pub shown-figures : r.fault ≡ 0 → Puts (tally_text r.config.count t) b 0 m j → Puts (shown_in (length b) image t) b 0 m j
+  pub shown_figures : r.fault ≡ 0 → Puts (tally_text r.config.count t) b 0 m j → Puts (shown_in (length b) image t) b 0 m j
   unfolding shown_in shown_text
-  shown-figures h p = rw (le-ltb (length b) enough room, ← k, eq-eqb r.fault 0 h) p
+  shown_figures h p = rw (le-ltb (length b) enough room, ← k, eq-eqb r.fault 0 h) p

@@ -94,11 +94,11 @@ dec_two k n = append_two (digits 10 k (n / 10 / 10)) _ _ ∙ ap (λ (m : ℕ). d
 
 -- the step of every law below: behind k digits the next two are put
 module _ (l m m' : List ℕ) (at k n : ℕ) where
-  pub hex-more : m ≡ put_all l at (digits 16 k (n / 256)) → m' ≡ put_all m (at + k) (digits 16 2 (n % 256)) → m' ≡ put_all l at (digits 16 (suc (suc k)) n)
-  hex-more e f = f ∙ rw (e, hex_rest n, hex_two k n) (put_all_join (digits 16 k (n / 256)) (digits 16 2 n) l at k (digits_length 16 k (n / 256)))
+  pub hex_more : m ≡ put_all l at (digits 16 k (n / 256)) → m' ≡ put_all m (at + k) (digits 16 2 (n % 256)) → m' ≡ put_all l at (digits 16 (suc (suc k)) n)
+  hex_more e f = f ∙ rw (e, hex_rest n, hex_two k n) (put_all_join (digits 16 k (n / 256)) (digits 16 2 n) l at k (digits_length 16 k (n / 256)))
 
-  pub dec-more : m ≡ put_all l at (digits 10 k (n / 100)) → m' ≡ put_all m (at + k) (digits 10 2 (n % 100)) → m' ≡ put_all l at (digits 10 (suc (suc k)) n)
-  dec-more e f = f ∙ rw (e, dec_rest n, dec_two k n) (put_all_join (digits 10 k (n / 100)) (digits 10 2 n) l at k (digits_length 10 k (n / 100)))
+  pub dec_more : m ≡ put_all l at (digits 10 k (n / 100)) → m' ≡ put_all m (at + k) (digits 10 2 (n % 100)) → m' ≡ put_all l at (digits 10 (suc (suc k)) n)
+  dec_more e f = f ∙ rw (e, dec_rest n, dec_two k n) (put_all_join (digits 10 k (n / 100)) (digits 10 2 n) l at k (digits_length 10 k (n / 100)))
 
 -- four zeros are stored
 pub zeros_put : (l : List ℕ) (at : ℕ) → set (set (set (set l at 48) (at + 1) 48) (at + 2) 48) (at + 3) 48 ≡ put_all l at (48 ∷ 48 ∷ 48 ∷ 48 ∷ [])
@@ -119,7 +119,7 @@ pub upper_put : (l m₁ m₂ : List ℕ) (at n : ℕ) → n < 2 ^ 32 → m₁ �
 upper_put l m₁ m₂ at n h e₁ e₂ =
     let b : n / 65536 / 256 ≡ n / 16777216 = div-div-eq-div-mul n 65536 256 in
     let p : m₁ ≡ put_all l at (digits 16 2 (n / 65536 / 256)) = rw b (e₁ ∙ ap (put_all l at) (pair_hex (n / 16777216) (omega arith))) in
-    hex-more l m₁ m₂ at 2 (n / 65536) p (e₂ ∙ ap (put_all m₁ (at + 2)) (pair_hex (n / 65536 % 256) (omega arith)))
+    hex_more l m₁ m₂ at 2 (n / 65536) p (e₂ ∙ ap (put_all m₁ (at + 2)) (pair_hex (n / 65536 % 256) (omega arith)))
 
 -- all eight are put: the upper four and two pairs, or zeros
 pub hex_put : (l m₁ m₂ m₃ : List ℕ) (at n : ℕ) → m₁ ≡ put_all l at (digits 16 4 (n / 65536)) → m₂ ≡ put_all m₁ (at + 4) (pair_at (n / 256 % 256))
@@ -127,8 +127,8 @@ pub hex_put : (l m₁ m₂ m₃ : List ℕ) (at n : ℕ) → m₁ ≡ put_all l 
 unfolding hex8
 hex_put l m₁ m₂ m₃ at n e₁ e₂ e₃ =
     let a : n / 256 / 256 ≡ n / 65536 = div-div-eq-div-mul n 256 256 in
-    let p : m₂ ≡ put_all l at (digits 16 6 (n / 256)) = hex-more l m₁ m₂ at 4 (n / 256) (rw a e₁) (e₂ ∙ ap (put_all m₁ (at + 4)) (pair_hex (n / 256 % 256) (omega arith))) in
-    digits_put l m₃ at 16 8 n (hex-more l m₂ m₃ at 6 n p (e₃ ∙ ap (put_all m₂ (at + 6)) (pair_hex (n % 256) (omega arith))))
+    let p : m₂ ≡ put_all l at (digits 16 6 (n / 256)) = hex_more l m₁ m₂ at 4 (n / 256) (rw a e₁) (e₂ ∙ ap (put_all m₁ (at + 4)) (pair_hex (n / 256 % 256) (omega arith))) in
+    digits_put l m₃ at 16 8 n (hex_more l m₂ m₃ at 6 n p (e₃ ∙ ap (put_all m₂ (at + 6)) (pair_hex (n % 256) (omega arith))))
 
 pub zero_put : (l m₁ m₂ : List ℕ) (at n : ℕ) → n ≡ 0 → m₁ ≡ put_all l at (48 ∷ 48 ∷ 48 ∷ 48 ∷ []) → m₂ ≡ put_all m₁ (at + 4) (48 ∷ 48 ∷ 48 ∷ 48 ∷ []) → Puts (hex8 n) l at m₂ (at + 8)
 unfolding hex8 digits glyph
@@ -161,22 +161,22 @@ width_5 n a b = rw (le-ltb n 10 (omega arith), le-ltb n 100 (omega arith), le-lt
 
 -- two, three, four or five decimal digits are put
 module _ (l : List ℕ) (at n : ℕ) where
-  pub two-put : (m : List ℕ) → 10 ≤ n → n < 100 → m ≡ put_all l at (digits 10 2 n) → Puts (decimal n) l at m (at + 2) × (at + 2 ≤ at + 10)
-  two-put m a b e = decimal_put l m at n 2 (width_2 n a b) e
+  pub two_put : (m : List ℕ) → 10 ≤ n → n < 100 → m ≡ put_all l at (digits 10 2 n) → Puts (decimal n) l at m (at + 2) × (at + 2 ≤ at + 10)
+  two_put m a b e = decimal_put l m at n 2 (width_2 n a b) e
 
-  pub three-put : (m : List ℕ) → 100 ≤ n → n < 1000 → m ≡ put_all (set l at (48 + n / 100)) (at + 1) (digits 10 2 (n % 100)) → Puts (decimal n) l at m (at + 3) × (at + 3 ≤ at + 10)
-  three-put m a b e = decimal_put l m at n 3 (width_3 n a b) (dec-more l (set l at (48 + n / 100)) m at 1 n (dec_one l at (n / 100) (omega arith)) e)
+  pub three_put : (m : List ℕ) → 100 ≤ n → n < 1000 → m ≡ put_all (set l at (48 + n / 100)) (at + 1) (digits 10 2 (n % 100)) → Puts (decimal n) l at m (at + 3) × (at + 3 ≤ at + 10)
+  three_put m a b e = decimal_put l m at n 3 (width_3 n a b) (dec_more l (set l at (48 + n / 100)) m at 1 n (dec_one l at (n / 100) (omega arith)) e)
 
-  pub four-put : (m m' : List ℕ) → 1000 ≤ n → n < 10000 → m ≡ put_all l at (digits 10 2 (n / 100)) → m' ≡ put_all m (at + 2) (digits 10 2 (n % 100))
+  pub four_put : (m m' : List ℕ) → 1000 ≤ n → n < 10000 → m ≡ put_all l at (digits 10 2 (n / 100)) → m' ≡ put_all m (at + 2) (digits 10 2 (n % 100))
       → Puts (decimal n) l at m' (at + 4) × (at + 4 ≤ at + 10)
-  four-put m m' a b e f = decimal_put l m' at n 4 (width_4 n a b) (dec-more l m m' at 2 n e f)
+  four_put m m' a b e f = decimal_put l m' at n 4 (width_4 n a b) (dec_more l m m' at 2 n e f)
 
-  pub five-put : (m m' : List ℕ) → 10000 ≤ n → n < 100000 → m ≡ put_all (set l at (48 + n / 10000)) (at + 1) (digits 10 2 (n % 10000 / 100))
+  pub five_put : (m m' : List ℕ) → 10000 ≤ n → n < 100000 → m ≡ put_all (set l at (48 + n / 10000)) (at + 1) (digits 10 2 (n % 10000 / 100))
       → m' ≡ put_all m (at + 3) (digits 10 2 (n % 10000 % 100)) → Puts (decimal n) l at m' (at + 5) × (at + 5 ≤ at + 10)
-  five-put m m' a b e f =
+  five_put m m' a b e f =
       let d : n / 100 / 100 ≡ n / 10000 = div-div-eq-div-mul n 100 100 in
       let g : n % 10000 / 100 ≡ n / 100 % 100 = omega arith in
       let h : n % 10000 % 100 ≡ n % 100 = omega arith in
       let q : set l at (48 + n / 10000) ≡ put_all l at (digits 10 1 (n / 100 / 100)) = rw d (dec_one l at (n / 10000) (omega arith)) in
-      let p : m ≡ put_all l at (digits 10 3 (n / 100)) = dec-more l (set l at (48 + n / 10000)) m at 1 (n / 100) q (rw g at e) in
-      decimal_put l m' at n 5 (width_5 n a b) (dec-more l m m' at 3 n p (rw h at f))
+      let p : m ≡ put_all l at (digits 10 3 (n / 100)) = dec_more l (set l at (48 + n / 10000)) m at 1 (n / 100) q (rw g at e) in
+      decimal_put l m' at n 5 (width_5 n a b) (dec_more l m m' at 3 n p (rw h at f))

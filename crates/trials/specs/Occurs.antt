@@ -27,7 +27,7 @@ pub record NotEmpty : Type 0 where
   pub goes_on : times (ends 0) eight ≡ 0
   pub spares : times (spare (example 2)) eight ≡ 2
   pub named : times (naming (example 2) 0) eight ≡ 4
-  pub handed-one : times (handed (example 2) 0) eight ≡ 1
+  pub handed_one : times (handed (example 2) 0) eight ≡ 1
   pub ran : times (ran_in 0) eight ≡ 5
   pub served : served_in (example 2) 0 (plain 1 ∷ marked 0 ∷ []) eight ≡ true
   -- C9: of four requests of VM 0 one is served, two are removed, and one still stands

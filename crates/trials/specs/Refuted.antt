@@ -16,30 +16,30 @@ use Rattle.trials.specs.Worthless.{charges_spare, empties_pending, forgets_addre
 -- C3, M1 to M7
 pub record Refuted : Type 0 where
   -- at Start
-  pub refuses-all : (n : ℕ) → (n ≡ 0 → ⊥) → Refuses (refuses_all n) → ⊥
-  pub hands-back : Starts untouched → ⊥
+  pub refuses_all_lem : (n : ℕ) → (n ≡ 0 → ⊥) → Refuses (refuses_all n) → ⊥
+  pub hands_back : Starts untouched → ⊥
   -- at the first tick; at the second; after the first
   pub idle : Slices idle_always → ⊥
   pub repeats : Table repeats_first → ⊥
-  pub makes-up : Shows invents → ⊥
+  pub makes_up : Shows invents → ⊥
   -- at the fifth tick, and at the sixth
   pub charges : Table charges_spare → ⊥
-  pub charges-slices : Slices charges_spare → ⊥
+  pub charges_slices : Slices charges_spare → ⊥
   -- the request of VM 0 waits behind an entry that should have left
   pub leaves : Waiting leaves_entries → ⊥
-  pub leaves-queue : Traced leaves_entries → ⊥
+  pub leaves_queue : Traced leaves_entries → ⊥
   -- the request of VM 1 is not served by the first spare tick
   pub newest : Waiting newest_first → ⊥
   -- when VM 1 takes over from VM 0
   pub forgets : Delivers forgets_address → ⊥
   -- after a Write of 100 to the field
   pub copy : Shows raises_copy → ⊥
-  pub stop-moves : Table moves_at_stop → ⊥
-  pub stop-moves-slices : Slices moves_at_stop → ⊥
+  pub stop_moves : Table moves_at_stop → ⊥
+  pub stop_moves_slices : Slices moves_at_stop → ⊥
   -- with 3 and 7 pending and enabled, at a sync and at a tick
   pub empties : Delivers empties_pending → ⊥
   pub lowest : Delivers lowest_first → ⊥
-  pub lowest-tick : Delivers lowest_first → ⊥
+  pub lowest_tick : Delivers lowest_first → ⊥
   -- with 3 enabled and injected; with 7 pending and 3 injected, both enabled
   pub waits : Delivers inject_waits → ⊥
   pub own : Delivers injects_its_own → ⊥
@@ -52,43 +52,43 @@ pub record Refuted : Type 0 where
   pub served : Removing tells_served → ⊥
   -- how a VM stands
   pub unused : Traced stops_unused → ⊥
-  pub stop-errs : Traced stops_as_error → ⊥
-  pub fault-stops : Traced faults_as_stop → ⊥
-  pub stays-ready : Traced stops_not → ⊥
+  pub stop_errs : Traced stops_as_error → ⊥
+  pub fault_stops : Traced faults_as_stop → ⊥
+  pub stays_ready : Traced stops_not → ⊥
   -- whether the core is started
-  pub begins-anew : Traced unstarts → ⊥
+  pub begins_anew : Traced unstarts → ⊥
   -- who runs between ticks
   pub yields : Runs calls_yield → ⊥
-  pub restart-runs : Runs restarts_run → ⊥
+  pub restart_runs : Runs restarts_run → ⊥
   pub hands_on : Runs stops_hand_on → ⊥
   -- what a Write stores
   pub ignores : Stores ignores_write → ⊥
   -- what no rule names
-  pub writes-all : Framed writes_all → ⊥
-  pub stop-wipes : Framed stops_wipe → ⊥
-  pub fault-wipes : Framed faults_wipe → ⊥
-  pub extra-resets : Framed extra_resets → ⊥
-  pub uses-up : Framed uses_up → ⊥
-  pub loses-restore : Framed loses_restore → ⊥
-  pub moves-reason : Framed (moves 20) → ⊥
-  pub moves-previous : Framed (moves 24) → ⊥
-  pub moves-resume : Framed (moves 16) → ⊥
+  pub writes_all_lem : Framed writes_all → ⊥
+  pub stop_wipes : Framed stops_wipe → ⊥
+  pub fault_wipes : Framed faults_wipe → ⊥
+  pub extra_resets_lem : Framed extra_resets → ⊥
+  pub uses_up_lem : Framed uses_up → ⊥
+  pub loses_restore_lem : Framed loses_restore → ⊥
+  pub moves_reason : Framed (moves 20) → ⊥
+  pub moves_previous : Framed (moves 24) → ⊥
+  pub moves_resume : Framed (moves 16) → ⊥
   -- the queue counts: at a spare tick; at a Stop, a Restart, an Extra
-  pub served-uncounted : StaysSound forgets_served → ⊥
-  pub lowers-other : StaysSound lowers_other → ⊥
-  pub stop-uncounted : StaysSound stops_uncounted → ⊥
-  pub restart-uncounted : StaysSound restarts_uncounted → ⊥
-  pub joins-uncounted : StaysSound joins_uncounted → ⊥
+  pub served_uncounted : StaysSound forgets_served → ⊥
+  pub lowers_other_lem : StaysSound lowers_other → ⊥
+  pub stop_uncounted : StaysSound stops_uncounted → ⊥
+  pub restart_uncounted : StaysSound restarts_uncounted → ⊥
+  pub joins_uncounted_lem : StaysSound joins_uncounted → ⊥
   -- the clock before the first tick, a ninth record, a seventeenth place, a ninth count
   pub strays : Table strays_at_first → ⊥
   pub ninth : Traced adds_record → ⊥
   pub longer : Traced adds_place → ⊥
-  pub ninth-count : Traced adds_count → ⊥
+  pub ninth_count : Traced adds_count → ⊥
   -- a Copy: the next address; the entries of a VM that it ends
-  pub next-lost : Delivers loses_next → ⊥
-  pub copy-leaves : Traced fails_uncleared → ⊥
+  pub next_lost : Delivers loses_next → ⊥
+  pub copy_leaves : Traced fails_uncleared → ⊥
   -- the bytes of the window: none moves; they move where the Copy fails; not all of them; one that was just written is copied
-  pub moves-none : Copies copies_never step_of → ⊥
+  pub moves_none : Copies copies_never step_of → ⊥
   pub unchecked : Copies copies_unchecked step_of → ⊥
-  pub two-old-wheels : Copies copies_half step_of → ⊥
+  pub two_old_wheels : Copies copies_half step_of → ⊥
   pub overlapping : Copies copies_forwards step_of → ⊥

@@ -11,7 +11,7 @@ use mathlib.Core.Path.{ap, refl, sym, ◌∙◌, ◌≡◌}
 use native.Mathlib.Decide.{dec_lt, ℕ_discrete}
 use native.Mathlib.Nat.{add-suc, add-zero, mod-eq_of_lt}
 use native.Mathlib.Omega.{arith}
-use Rattle.basis.proofs.Laws.{upTo-more}
+use Rattle.basis.proofs.Laws.{up_to_more}
 use Rattle.basis.specs.Choice.{pick}
 use Rattle.basis.specs.Count.{up_to}
 use Rattle.basis.specs.Nobody.{nobody}
@@ -30,32 +30,32 @@ module _ (f : ℕ → Vm → Vm) where
 
   pub each_more : (l x y : List Vm) (k : ℕ) → x ≡ each f k l → y ≡ set x k (f k (get_or x k fresh)) → y ≡ each f (k + 1) l
   unfolding each
-  each_more l x y k e g = upTo-more _ l k x y e g
+  each_more l x y k e g = up_to_more _ l k x y e g
 
-  pub each-length : (l : List Vm) (n : ℕ) → length (each f n l) ≡ length l
+  pub each_length : (l : List Vm) (n : ℕ) → length (each f n l) ≡ length l
   unfolding each up_to
-  each-length l zero = refl
-  each-length l (suc n) = length-set (each f n l) n _ ∙ each-length l n
+  each_length l zero = refl
+  each_length l (suc n) = length-set (each f n l) n _ ∙ each_length l n
 
   -- past the last record nothing changes
-  pub each-past : (l : List Vm) (n : ℕ) → length l ≤ n → each f (suc n) l ≡ each f n l
+  pub each_past : (l : List Vm) (n : ℕ) → length l ≤ n → each f (suc n) l ≡ each f n l
   unfolding each up_to
-  each-past l n h = set_out (each f n l) n _ (omega (arith, each-length l n))
+  each_past l n h = set_out (each f n l) n _ (omega (arith, each_length l n))
 
-  pub each-far : (l : List Vm) (m n : ℕ) → length l ≤ m → each f (m + n) l ≡ each f m l
-  each-far l m zero h = ap (λ (k : ℕ). each f k l) (add-zero m)
-  each-far l m (suc n) h = ap (λ (k : ℕ). each f k l) (add-suc m n) ∙ each-past l (m + n) (omega arith) ∙ each-far l m n h
+  pub each_far : (l : List Vm) (m n : ℕ) → length l ≤ m → each f (m + n) l ≡ each f m l
+  each_far l m zero h = ap (λ (k : ℕ). each f k l) (add-zero m)
+  each_far l m (suc n) h = ap (λ (k : ℕ). each f k l) (add-suc m n) ∙ each_past l (m + n) (omega arith) ∙ each_far l m n h
 
-  pub each-end : (l x : List Vm) (k n : ℕ) → length l ≡ 8 → x ≡ each f k l → k ≡ min n 8 → x ≡ each f n l
-  each-end l x k n h e g =
+  pub each_end : (l x : List Vm) (k n : ℕ) → length l ≡ 8 → x ≡ each f k l → k ≡ min n 8 → x ≡ each f n l
+  each_end l x k n h e g =
       elim (dec_lt n 8) [
         | yes p ↦ (let i : k ≡ n = omega arith in rw (← i) e)
-        | no p ↦ (let i : k ≡ 8 = omega arith in let j : n ≡ 8 + (n - 8) = omega arith in (rw i at e) ∙ sym (ap (λ (m : ℕ). each f m l) j ∙ each-far l 8 (n - 8) (omega arith)))
+        | no p ↦ (let i : k ≡ 8 = omega arith in let j : n ≡ 8 + (n - 8) = omega arith in (rw i at e) ∙ sym (ap (λ (m : ℕ). each f m l) j ∙ each_far l 8 (n - 8) (omega arith)))
       ]
 
   each_hit : (l : List Vm) (n : ℕ) → n < length l → get_or (each f (suc n) l) n fresh ≡ f n (get_or (each f n l) n fresh)
   unfolding each up_to
-  each_hit l n h = get_or-set_same (each f n l) n _ fresh (omega (arith, each-length l n))
+  each_hit l n h = get_or-set_same (each f n l) n _ fresh (omega (arith, each_length l n))
 
   each_miss : (l : List Vm) (n i : ℕ) → i ≢ n → get_or (each f (suc n) l) i fresh ≡ get_or (each f n l) i fresh
   unfolding each up_to
@@ -167,8 +167,8 @@ unfolding turn passed
 turn_law l w handlers running at count owner head left who k address number s b d h hs hw hk hb hwho hd ha hn =
     let first : set l (running % 8) s ≡ saving running at l = saved_law l running at s hs in
     let long : length (set l (running % 8) s) ≡ 8 = length-set l (running % 8) s ∙ h in
-    let p : w ≡ aged_all count (set l (running % 8) s) = each-end (λ k v. older v) (set l (running % 8) s) w k count long hw hk in
+    let p : w ≡ aged_all count (set l (running % 8) s) = each_end (λ k v. older v) (set l (running % 8) s) w k count long hw hk in
     let pp : w ≡ aged_all count (saving running at l) = p ∙ ap (aged_all count) first in
-    let wl : length w ≡ 8 = ap length p ∙ each-length (λ k v. older v) (set l (running % 8) s) count ∙ long in
+    let wl : length w ≡ 8 = ap length p ∙ each_length (λ k v. older v) (set l (running % 8) s) count ∙ long in
     let q : who ≡ runner_of owner head w = runner_law w owner head who b wl hb hwho in
     entered_law w handlers who left address number d wl hd ha hn ∙ ap (λ (x : ℕ). turn_by x left handlers w) q ∙ ap (λ (x : List Vm). turn_by (runner_of owner head x) left handlers x) pp

@@ -15,7 +15,7 @@ use Rattle.guest.proofs.Facts.{enter_standing}
 use Rattle.guest.specs.Record.{fresh, is_ready, older, saved_at}
 use Rattle.guest.specs.declared.Delivery.{Delivery}
 use Rattle.guest.specs.declared.Vm.{Vm}
-use Rattle.vms.proofs.Laws.{each_at, each-length}
+use Rattle.vms.proofs.Laws.{each_at, each_length}
 use Rattle.vms.specs.Records.{aged_all}
 use Rattle.vms.specs.Tick.{entering, passed, runner_of, saving, turn, turn_by}
 
@@ -60,7 +60,7 @@ saving_length running at l = pick_case (λ (w : List Vm). length w ≡ length l)
 
 pub passed_length : (running at count : ℕ) (l : List Vm) → length (passed running at count l) ≡ length l
 unfolding passed
-passed_length running at count l = each-length (λ k v. older v) (saving running at l) count ∙ saving_length running at l
+passed_length running at count l = each_length (λ k v. older v) (saving running at l) count ∙ saving_length running at l
 
 pub turn_length : (running at count owner head left : ℕ) (handlers : List ℕ) (l : List Vm) → length (turn running at count owner head left handlers l).vms ≡ length l
 unfolding turn turn_by
@@ -88,7 +88,7 @@ pub aged_keeps : {A : Type 0} (f : Vm → A) → ((v : Vm) → f (older v) ≡ f
 aged_keeps f p count l k =
     elim (dec_lt k (length l)) [
       | yes h ↦ ap f (aged_at count l k h) ∙ pick_case (λ (v : Vm). f v ≡ f (get_or l k fresh)) (ltb k count) _ _ (λ t. p (get_or l k fresh)) (λ t. refl)
-      | no h ↦ (let g : length l ≤ k = omega arith in let i : length (aged_all count l) ≤ k = omega (arith, each-length (λ i v. older v) l count) in
+      | no h ↦ (let g : length l ≤ k = omega arith in let i : length (aged_all count l) ≤ k = omega (arith, each_length (λ i v. older v) l count) in
           ap f (get_or-eq_default (aged_all count l) fresh i ∙ sym (get_or-eq_default l fresh g)))
     ]
 
@@ -103,7 +103,7 @@ unfolding passed
 passed_other running at count l k n h =
     elim (dec_lt k (length l)) [
       | yes i ↦ aged_at count (saving running at l) k (omega (arith, saving_length running at l)) ∙ rw (le-ltb k count h) (saving_other running at l k n)
-      | no i ↦ (let g : length l ≤ k = omega arith in let j : length (aged_all count (saving running at l)) ≤ k = omega (arith, each-length (λ i v. older v) (saving running at l) count, saving_length running at l) in
+      | no i ↦ (let g : length l ≤ k = omega arith in let j : length (aged_all count (saving running at l)) ≤ k = omega (arith, each_length (λ i v. older v) (saving running at l) count, saving_length running at l) in
           get_or-eq_default (aged_all count (saving running at l)) fresh j ∙ sym (get_or-eq_default l fresh g))
     ]
 
@@ -112,9 +112,9 @@ passed_standing running at count l k = passed_keeps (λ v. v.standing) (λ at v.
 
 module _ (running at count : ℕ) (l : List Vm) (eight : length l ≡ 8) (v : ℕ) (small : v < 8) where
   -- D3: the address given is that of the VM that was running
-  pub passed-address : (get_or (passed running at count l) v fresh).address ≡ pick (eqb v running) at (get_or l v fresh).address
+  pub passed_address : (get_or (passed running at count l) v fresh).address ≡ pick (eqb v running) at (get_or l v fresh).address
   unfolding passed saving
-  passed-address = aged_keeps (λ w. w.address) (λ w. refl) count (saving running at l) v ∙ pick_case P (ltb running 8) _ _ here away
+  passed_address = aged_keeps (λ w. w.address) (λ w. refl) count (saving running at l) v ∙ pick_case P (ltb running 8) _ _ here away
     where
       P : List Vm → Type 0
       P w = (get_or w v fresh).address ≡ pick (eqb v running) at (get_or l v fresh).address
@@ -132,15 +132,15 @@ module _ (running at count : ℕ) (l : List Vm) (eight : length l ≡ 8) (v : �
       away h = let n = ltb-false running 8 h in rw (ne_eqb v running (λ e. omega arith))
 
   -- D4
-  pub passed-age : v < count → (get_or (passed running at count l) v fresh).age ≡ ((get_or l v fresh).age + 1) % 2 ^ 32
+  pub passed_age : v < count → (get_or (passed running at count l) v fresh).age ≡ ((get_or l v fresh).age + 1) % 2 ^ 32
   unfolding passed
-  passed-age h =
+  passed_age h =
       let i : v < length (saving running at l) = omega (arith, saving_length running at l) in
       ap (λ (w : Vm). w.age) (aged_at count (saving running at l) v i) ∙ rw (lt-ltb v count h)
       (ap (λ (n : ℕ). (n + 1) % 2 ^ 32) (saving_keeps (λ w. w.age) (λ at w. refl) running at l v))
 
-  pub passed-ran : (get_or (passed running at count l) v fresh).ran ≡ (get_or l v fresh).ran
-  passed-ran = passed_keeps (λ w. w.ran) (λ at w. refl) (λ w. refl) running at count l v
+  pub passed_ran : (get_or (passed running at count l) v fresh).ran ≡ (get_or l v fresh).ran
+  passed_ran = passed_keeps (λ w. w.ran) (λ at w. refl) (λ w. refl) running at count l v
 
 -- D9: before one is entered, no fields change
 pub passed_status : (running at count : ℕ) (l : List Vm) (v : ℕ) → (get_or (passed running at count l) v fresh).status ≡ (get_or l v fresh).status
@@ -155,22 +155,22 @@ entering_standing who left handlers l =
 
 module _ (running at count owner head left : ℕ) (handlers : List ℕ) (l : List Vm) where
   -- a tick changes no standing
-  pub turn-standing : (k : ℕ) → (get_or (turn running at count owner head left handlers l).vms k fresh).standing ≡ (get_or l k fresh).standing
+  pub turn_standing : (k : ℕ) → (get_or (turn running at count owner head left handlers l).vms k fresh).standing ≡ (get_or l k fresh).standing
   unfolding turn turn_by
-  turn-standing k =
+  turn_standing k =
       store_keeps (λ v. v.standing) (passed running at count l) (runner_of owner head (passed running at count l)) _
       (entering_standing (runner_of owner head (passed running at count l)) left handlers (passed running at count l)) k
       ∙ passed_standing running at count l k
 
   -- so whom it runs can be read off the records before it
-  pub turn-who : (turn running at count owner head left handlers l).who ≡ runner_of owner head l
+  pub turn_who : (turn running at count owner head left handlers l).who ≡ runner_of owner head l
   unfolding turn turn_by runner_of
-  turn-who = rw (passed_standing running at count l owner)
+  turn_who = rw (passed_standing running at count l owner)
 
   -- neither running before nor after, nor of the configuration: as it was
-  pub turn-other : (k : ℕ) → (k ≡ running → ⊥) → (k ≡ runner_of owner head l → ⊥) → count ≤ k
+  pub turn_other : (k : ℕ) → (k ≡ running → ⊥) → (k ≡ runner_of owner head l → ⊥) → count ≤ k
       → get_or (turn running at count owner head left handlers l).vms k fresh ≡ get_or l k fresh
   unfolding turn turn_by
-  turn-other k n m h =
-      get_or-set_other (passed running at count l) (runner_of owner head (passed running at count l)) k _ fresh (λ e. m (e ∙ turn-who))
+  turn_other k n m h =
+      get_or-set_other (passed running at count l) (runner_of owner head (passed running at count l)) k _ fresh (λ e. m (e ∙ turn_who))
       ∙ passed_other running at count l k n h

@@ -15,13 +15,13 @@ use Rattle.window.specs.declared.Window.{Window}
 
 module _ (w : Window) (a n : ℕ) where
   -- the ways of the code: below the base, past the end, and else by what is left of the window
-  pub inside-low : a < w.base → false ≡ inside w a n
+  pub inside_low : a < w.base → false ≡ inside w a n
   unfolding inside
-  inside-low h = rw (lt-leb w.base a h)
+  inside_low h = rw (lt-leb w.base a h)
 
-  pub inside-far : w.base ≤ a → w.size < a - w.base → false ≡ inside w a n
+  pub inside_far : w.base ≤ a → w.size < a - w.base → false ≡ inside w a n
   unfolding inside
-  inside-far h g = rw (le-leb w.base a h, lt-leb (a + n) (w.base + w.size) (omega arith))
+  inside_far h g = rw (le-leb w.base a h, lt-leb (a + n) (w.base + w.size) (omega arith))
 
   pub inside_is : w.base ≤ a → a - w.base ≤ w.size → leb n (w.size - (a - w.base)) ≡ inside w a n
   unfolding inside
@@ -33,9 +33,9 @@ module _ (w : Window) (a n : ℕ) where
       ])
 
   -- D32 as facts
-  pub inside-bounds : inside w a n ≡ true → (w.base ≤ a) × (a + n ≤ w.base + w.size)
+  pub inside_bounds : inside w a n ≡ true → (w.base ≤ a) × (a + n ≤ w.base + w.size)
   unfolding inside
-  inside-bounds e =
+  inside_bounds e =
       (leb-true w.base a (both_left (leb w.base a) _ e), leb-true (a + n) (w.base + w.size) (both_right (leb w.base a) _ e))
 
 -- where an extent that fits lies, if it has bytes
@@ -51,8 +51,8 @@ unfolding fits
 fits_bounds w x e h =
     let f = both_part (eqb x.length 0) (ne_eqb x.length 0 h) e in
     let g = both_right (leb x.length 256) _ f in
-    let s = inside-bounds w x.source x.length (both_left (inside w x.source x.length) _ g) in
-    let d = inside-bounds w x.destination x.length (both_right (inside w x.source x.length) _ g) in
+    let s = inside_bounds w x.source x.length (both_left (inside w x.source x.length) _ g) in
+    let d = inside_bounds w x.destination x.length (both_right (inside w x.source x.length) _ g) in
     record { few = leb-true x.length 256 (both_left (leb x.length 256) _ f); from = s.0; from_end = s.1; to = d.0; to_end = d.1 }
   where
     both_part : {c : Bool} (b : Bool) → b ≡ false → either b c ≡ true → c ≡ true

@@ -43,23 +43,23 @@ module _ (from to n : ℕ) (m : List ℕ) (h : from + n ≤ length m) (g : to + 
       ∙ ap (λ (b : ℕ). pick (ltb i (to + n)) b (get_or (drop (to + n) m) (i - (to + n)) 0)) (join_at (take to m) (take n (drop from m)) to i (let t = length-take to m in omega arith))
 
   -- D36: the bytes from `to` on are those that stood from `from` on
-  pub copied-in : (i : ℕ) → to ≤ i → i < to + n → get_or (copied from to n m) i 0 ≡ get_or m (from + (i - to)) 0
-  copied-in i a b =
+  pub copied_in : (i : ℕ) → to ≤ i → i < to + n → get_or (copied from to n m) i 0 ≡ get_or m (from + (i - to)) 0
+  copied_in i a b =
       parts i ∙ rw (lt-ltb i (to + n) b, le-ltb i to a) (get_or-take n (drop from m) (i - to) 0 (omega arith) ∙ get_or-drop from m (i - to) 0)
 
   -- the bytes below are as they were
-  pub copied-below : (i : ℕ) → i < to → get_or (copied from to n m) i 0 ≡ get_or m i 0
-  copied-below i a = parts i ∙ rw (lt-ltb i (to + n) (omega arith), lt-ltb i to a) (get_or-take to m i 0 a)
+  pub copied_below : (i : ℕ) → i < to → get_or (copied from to n m) i 0 ≡ get_or m i 0
+  copied_below i a = parts i ∙ rw (lt-ltb i (to + n) (omega arith), lt-ltb i to a) (get_or-take to m i 0 a)
 
   -- the bytes from the end on are as they were
-  pub copied-above : (i : ℕ) → to + n ≤ i → get_or (copied from to n m) i 0 ≡ get_or m i 0
-  copied-above i a =
+  pub copied_above : (i : ℕ) → to + n ≤ i → get_or (copied from to n m) i 0 ≡ get_or m i 0
+  copied_above i a =
       parts i ∙ rw (le-ltb i (to + n) a) (get_or-drop (to + n) m (i - (to + n)) 0 ∙ ap (λ (k : ℕ). get_or m k 0) (omega arith))
 
   -- and there are as many
-  pub copied-long : length (copied from to n m) ≡ length m
+  pub copied_long : length (copied from to n m) ≡ length m
   unfolding copied
-  copied-long = length-paste m to (drop from m) n g (let c = length-drop from m in omega arith)
+  copied_long = length-paste m to (drop from m) n g (let c = length-drop from m in omega arith)
 
 module _ (base : ℕ) (x : Extent) (m : List ℕ) (f : fits (window_of base m) x ≡ true) where
   -- where it has bytes, its two ranges are places of the memory
@@ -67,31 +67,31 @@ module _ (base : ℕ) (x : Extent) (m : List ℕ) (f : fits (window_of base m) x
   places e = let b = fits_bounds (window_of base m) x f e in (b.to, omega (arith, b.from, b.from_end), omega (arith, b.to, b.to_end))
 
   -- a copy keeps the length of the memory
-  pub moved-long : length (moved base x m) ≡ length m
-  moved-long =
+  pub moved_long : length (moved base x m) ≡ length m
+  moved_long =
       elim (ℕ_discrete x.length 0) [
         | yes e ↦ ap (λ (l : List ℕ). length l) (sym (moved_none base x m e))
-        | no e ↦ (let p = places e in copied-long (x.source - base) (x.destination - base) x.length m p.1 p.2)
+        | no e ↦ (let p = places e in copied_long (x.source - base) (x.destination - base) x.length m p.1 p.2)
       ]
 
   moved_in : (i : ℕ) → x.destination ≤ base + i → base + i < x.destination + x.length → get_or (moved base x m) i 0 ≡ get_or m (source_of base x i) 0
   moved_in i h g =
       let p = places (omega arith) in
-      copied-in (x.source - base) (x.destination - base) x.length m p.1 p.2 i (omega arith) (omega (arith, p.0))
+      copied_in (x.source - base) (x.destination - base) x.length m p.1 p.2 i (omega arith) (omega (arith, p.0))
       ∙ ap (λ (k : ℕ). get_or m k 0) (omega (arith, p.0))
 
   moved_below : (i : ℕ) → base + i < x.destination → get_or (moved base x m) i 0 ≡ get_or m i 0
   moved_below i h =
       elim (ℕ_discrete x.length 0) [
         | yes e ↦ ap (λ (l : List ℕ). get_or l i 0) (sym (moved_none base x m e))
-        | no e ↦ (let p = places e in copied-below (x.source - base) (x.destination - base) x.length m p.1 p.2 i (omega arith))
+        | no e ↦ (let p = places e in copied_below (x.source - base) (x.destination - base) x.length m p.1 p.2 i (omega arith))
       ]
 
   moved_above : (i : ℕ) → x.destination + x.length ≤ base + i → get_or (moved base x m) i 0 ≡ get_or m i 0
   moved_above i h =
       elim (ℕ_discrete x.length 0) [
         | yes e ↦ ap (λ (l : List ℕ). get_or l i 0) (sym (moved_none base x m e))
-        | no e ↦ (let p = places e in copied-above (x.source - base) (x.destination - base) x.length m p.1 p.2 i (omega (arith, p.0)))
+        | no e ↦ (let p = places e in copied_above (x.source - base) (x.destination - base) x.length m p.1 p.2 i (omega (arith, p.0)))
       ]
 
   -- D36: in the destination the source's bytes as they stood, elsewhere the bytes as before
@@ -108,13 +108,13 @@ module _ (base : ℕ) (x : Extent) (m : List ℕ) (f : fits (window_of base m) x
 
 -- what fits a memory fits it after a copy
 rest_fits : (base : ℕ) (x : Extent) (xs : List Extent) (m : List ℕ) → all_fit base (x ∷ xs) m → all_fit base xs (moved base x m)
-rest_fits base x xs m f k h = rw (moved-long base x m (f zero (omega arith))) (f (suc k) (omega arith))
+rest_fits base x xs m f k h = rw (moved_long base x m (f zero (omega arith))) (f (suc k) (omega arith))
 
 -- D36: copies in their order keep the length of the memory
 pub copied_all_long : (base : ℕ) (xs : List Extent) (m : List ℕ) → all_fit base xs m → length (copied_all base xs m) ≡ length m
 unfolding copied_all
 copied_all_long base [] m f = refl
-copied_all_long base (x ∷ xs) m f = copied_all_long base xs (moved base x m) (rest_fits base x xs m f) ∙ moved-long base x m (f zero (omega arith))
+copied_all_long base (x ∷ xs) m f = copied_all_long base xs (moved base x m) (rest_fits base x xs m f) ∙ moved_long base x m (f zero (omega arith))
 
 -- D36: a byte that lies in no destination is as before
 pub copied_all_else : (base : ℕ) (xs : List Extent) (m : List ℕ) (i : ℕ) → all_fit base xs m
@@ -176,12 +176,12 @@ zeros_copied from to n k h g =
     let l : length (replicate k z) ≡ k = length-replicate k z in
     let h' : from + n ≤ length (replicate k z) = omega arith in
     let g' : to + n ≤ length (replicate k z) = omega arith in
-    ext_get_or 0 (copied from to n (replicate k 0)) (replicate k 0) (copied-long from to n (replicate k 0) h' g')
+    ext_get_or 0 (copied from to n (replicate k 0)) (replicate k 0) (copied_long from to n (replicate k 0) h' g')
     (λ i j. elim (dec_lt i to) [
-      | yes a ↦ copied-below from to n (replicate k 0) h' g' i a
+      | yes a ↦ copied_below from to n (replicate k 0) h' g' i a
       | no a ↦ elim (dec_lt i (to + n)) [
-        | yes b ↦ copied-in from to n (replicate k 0) h' g' i (omega arith) b ∙ zeros_at k (from + (i - to)) ∙ sym (zeros_at k i)
-        | no b ↦ copied-above from to n (replicate k 0) h' g' i (omega arith)
+        | yes b ↦ copied_in from to n (replicate k 0) h' g' i (omega arith) b ∙ zeros_at k (from + (i - to)) ∙ sym (zeros_at k i)
+        | no b ↦ copied_above from to n (replicate k 0) h' g' i (omega arith)
       ]
     ])
 

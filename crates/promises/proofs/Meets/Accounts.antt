@@ -14,14 +14,14 @@ use Rattle.rig_core.specs.State.{fresh_core}
 use Rattle.rig_core.specs.declared.Core.{Core}
 use Rattle.event.specs.declared.Event.{Event}
 use Rattle.history.proofs.Counts.{num, times_cons, times_nil}
-use Rattle.history.proofs.Effects.{asks-is, is_add, is_take, spare-is}
+use Rattle.history.proofs.Effects.{asks_is, is_add, is_take, spare_is}
 use Rattle.history.proofs.Lawful.{Lawful, lawful}
-use Rattle.history.proofs.Steps.{Reached, at_fresh, step-at, vm_small}
-use Rattle.history.proofs.Ticking.{spare-front}
+use Rattle.history.proofs.Steps.{Reached, at_fresh, step_at, vm_small}
+use Rattle.history.proofs.Ticking.{spare_front}
 use Rattle.history.specs.History.{Behaviour, Moment, moment, moments, state_after, ticks_after, times}
 use Rattle.history.specs.Moments.{asks, handed, spare}
 use Rattle.history.specs.Queueing.{Add, Effect, Keep, Remove, Take, affected, effect, removed_from, removed_in, removes}
-use Rattle.promises.proofs.Meets.Tracing.{ours-queue}
+use Rattle.promises.proofs.Meets.Tracing.{ours_queue}
 use Rattle.promises.specs.Sharing.{Accounts}
 use Rattle.queue.proofs.Counted.{entries_add, entries_gone, entries_rest, entries_stay}
 use Rattle.queue.specs.Entries.{entries, entries_of, front_of, others}
@@ -32,7 +32,7 @@ module _ (g : Config) (v : ℕ) (small : v < nobody) (m : Moment) (l : Lawful g 
   -- the entries of v before, and its request, are what was handed to it, what was removed and what stands after
   balance_law : entries_of v (entries m.before.queue) + num (asks v m)
       ≡ num (handed g v m) + (pick (removes g v m) m.answer.removed 0 + entries_of v (entries m.after.queue))
-  balance_law = go (effect g m) refl (spare-is g m) l.queue l.removed (asks-is g m v)
+  balance_law = go (effect g m) refl (spare_is g m) l.queue l.removed (asks_is g m v)
     where
       q₀ : List ℕ
       q₀ = entries m.before.queue
@@ -41,7 +41,7 @@ module _ (g : Config) (v : ℕ) (small : v < nobody) (m : Moment) (l : Lawful g 
       idle h = rw h
 
       taken : spare g m ≡ true → num (handed g v m) ≡ num (eqb (front_of q₀) v)
-      taken h = rw (h, spare-front g v small m l h)
+      taken h = rw (h, spare_front g v small m l h)
 
       removal : (w : ℕ) (b : Bool) → eqb w v ≡ b → m.answer.removed ≡ entries_of w q₀ → entries_of v q₀ ≡ pick b m.answer.removed 0 + entries_of v (others w q₀)
       removal w true e r = let i = eqb-true w v e in rw (r, i, entries_gone v q₀) (omega arith)
@@ -89,4 +89,4 @@ none_fresh g v = refl
 pub ours_accounts : Accounts step_of
 ours_accounts g d v h es =
     let small : v < nobody = omega (arith, vm_small g d v h) in
-    omega (arith, none_fresh g v, balance g step_of (Reached g) (step-at g d) (lawful g d) v small es 0 (fresh_core g) (at_fresh g d), ap (entries_of v) (ours-queue g d es))
+    omega (arith, none_fresh g v, balance g step_of (Reached g) (step_at g d) (lawful g d) v small es 0 (fresh_core g) (at_fresh g d), ap (entries_of v) (ours_queue g d es))

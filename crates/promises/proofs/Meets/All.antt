@@ -19,7 +19,7 @@ pub ours_rules : Rules step_of
 ours_rules =
     record {
       refuses = ours_refuses;
-      stays-sound = ours_stays_sound;
+      stays_sound = ours_stays_sound;
       tells = ours_tells;
       removing = ours_removing;
       table = ours_table;

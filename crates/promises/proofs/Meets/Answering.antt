@@ -18,7 +18,7 @@ use Rattle.rig_core.specs.declared.Stepped.{Stepped}
 use Rattle.core_laws.proofs.Copying.{copy_asks}
 use Rattle.core_laws.proofs.Facts.{sound_is}
 use Rattle.core_laws.proofs.Refused.{step_shows}
-use Rattle.core_laws.proofs.View.{call-case, copy_case, row_copy}
+use Rattle.core_laws.proofs.View.{call_case, copy_case, row_copy}
 use Rattle.event.specs.declared.Event.TheVariants.{Call, Copy, Extra, Fault, Restart, Shutdown, Start, Stop, Tick, Write}
 use Rattle.event.specs.declared.Event.{Event}
 use Rattle.guest.specs.Record.{saved_at}
@@ -33,14 +33,14 @@ use Rattle.window.specs.declared.Window.{Window}
 call_notice : (c : Core) (s n at : ℕ) → (done c (Call s n at)).answer.notice ≡ notice_by c (Call s n at)
 unfolding done
 call_notice c s n at =
-    call-case (λ (x : Change). x.notice ≡ notice_by c (Call s n at)) c.running c.queue (full c) (handler_at c.config c.running) c.running s n (saved_at at (vm_at c c.running))
+    call_case (λ (x : Change). x.notice ≡ notice_by c (Call s n at)) c.running c.queue (full c) (handler_at c.config c.running) c.running s n (saved_at at (vm_at c c.running))
     (λ h. rw h) (λ h. rw h) (λ h i. rw (h, le-leb n 31 i)) (λ h i. rw (h, lt-leb n 31 i)) (λ h. rw h) (λ h i. rw h) (λ h i. rw h)
     (λ h. (let a = ne_eqb s 2 (λ e. omega arith) in let b = ne_eqb s 3 (λ e. omega arith) in let d = lt-leb s 4 h in rw (a, b, d)))
 
 call_result : (c : Core) (s n at : ℕ) → (done c (Call s n at)).answer.result ≡ result_by c (Call s n at)
 unfolding done
 call_result c s n at =
-    call-case (λ (x : Change). x.result ≡ pick (both (eqb s 4) (full c)) 1 0) c.running c.queue (full c) (handler_at c.config c.running) c.running s n (saved_at at (vm_at c c.running))
+    call_case (λ (x : Change). x.result ≡ pick (both (eqb s 4) (full c)) 1 0) c.running c.queue (full c) (handler_at c.config c.running) c.running s n (saved_at at (vm_at c c.running))
     (λ h. rw h) (λ h. rw h) (λ h i. rw h) (λ h i. rw h) (λ h. rw h) (λ h i. rw (h, i)) (λ h i. rw (h, i))
     (λ h. rw (ne_eqb s 4 (λ e. omega arith)))
 

@@ -24,7 +24,7 @@ use Rattle.rig_core.specs.Refusals.{refused, row_of}
 use Rattle.rig_core.specs.State.{fresh_core, full, vm_at}
 use Rattle.rig_core.specs.declared.Core.{Core}
 use Rattle.rig_core.specs.declared.Stepped.{Stepped}
-use Rattle.core_laws.proofs.View.{call-case, copy_case, row_restart, step_case}
+use Rattle.core_laws.proofs.View.{call_case, copy_case, row_restart, step_case}
 use Rattle.event.specs.declared.Event.TheVariants.{Call, Copy, Extra, Fault, Restart, Shutdown, Start, Stop, Tick, Write}
 use Rattle.event.specs.declared.Event.{Event}
 use Rattle.guest.proofs.Facts.{deliver_age, deliver_ran, pend_age, pend_ran, write_age, write_ran}
@@ -33,11 +33,11 @@ use Rattle.guest.specs.Record.{ended_as, fresh, pend, saved_at, started_at}
 use Rattle.guest.specs.Write.{write}
 use Rattle.guest.specs.declared.Vm.{Vm}
 use Rattle.history.proofs.More.{moments_more, state_more}
-use Rattle.history.proofs.Steps.{Reached, at_fresh, ours_at, step-at, vm_small}
+use Rattle.history.proofs.Steps.{Reached, at_fresh, ours_at, step_at, vm_small}
 use Rattle.history.specs.History.{Behaviour, Moment, history, moment, moment_of, moments, next, since_last, state_after, state_of, ticking, ticks_after, ticks_of, told, went}
 use Rattle.history.specs.Moments.{begins, ran_in}
-use Rattle.promises.proofs.Meets.Starting.{count_few, start-ready}
-use Rattle.promises.proofs.Meets.Ticks.{tick-age, tick-ran, tick-shows}
+use Rattle.promises.proofs.Meets.Starting.{count_few, start_ready}
+use Rattle.promises.proofs.Meets.Ticks.{tick_age, tick_ran, tick_shows}
 use Rattle.promises.specs.Timing.{Clocks, Shows, age_in, ran_since}
 use Rattle.vms.proofs.Records.{store_keeps}
 
@@ -93,7 +93,7 @@ module _ (f : Vm → ℕ) (steady : Steady f) (g : Config) (d : Given g) (v : �
     unfolding done
     call_keeps s n at =
         change_keeps f c v (called c c.running s n w)
-        (call-case (λ (x : Change). f x.vm ≡ f (vm_at c x.place)) c.running c.queue (full c) (handler_at c.config c.running) c.running s n w
+        (call_case (λ (x : Change). f x.vm ≡ f (vm_at c x.place)) c.running c.queue (full c) (handler_at c.config c.running) c.running s n w
         (λ h. steady.given _ w ∙ old) (λ h. steady.given _ (back_from w) ∙ steady.back w ∙ old) (λ h i. steady.given _ (pend n w) ∙ steady.pended n w ∙ old) (λ h i. steady.ended 4 w ∙ old)
         (λ h. steady.ended 3 w ∙ old) (λ h i. old) (λ h i. old) (λ h. steady.ended 4 w ∙ old))
       where
@@ -116,7 +116,7 @@ module _ (f : Vm → ℕ) (steady : Steady f) (g : Config) (d : Given g) (v : �
 
     done_grown : (e : Event) → row_of c e ≡ 0 → f (vm_at (done c e).core v) ≡ grown (moment_of k c e (done c e))
     unfolding begins done
-    done_grown Start r = ap f (start-ready g d k c p v low) ∙ steady.begun (entry_at g v)
+    done_grown Start r = ap f (start_ready g d k c p v low) ∙ steady.begun (entry_at g v)
     done_grown (Tick at) r = moves at
     done_grown (Stop w) r = quiet_law (moment_of k c (Stop w) (done c (Stop w))) refl refl refl (change_keeps f c v (ending c w (vm_at c w) 2 (notice_of 1 w)) (steady.ended 2 (vm_at c w)))
     done_grown (Shutdown w) r = quiet_law (moment_of k c (Shutdown w) (done c (Shutdown w))) refl refl refl (change_keeps f c v (renewed c w (pend 11 (vm_at c w)) nobody) (steady.pended 11 (vm_at c w)))
@@ -159,11 +159,11 @@ module _ (g : Config) (d : Given g) (v : ℕ) (low : v < g.count) where
 
   age_moves : (k : ℕ) (c : Core) → Reached g k c → (at : ℕ) → age_of v (done c (Tick at)).core ≡ (age_of v c + 1) % 2 ^ 32
   unfolding done
-  age_moves k c p at = tick-age c at p.shaped.records v (vm_small g d v low) (in_count k c p)
+  age_moves k c p at = tick_age c at p.shaped.records v (vm_small g d v low) (in_count k c p)
 
   ran_moves : (k : ℕ) (c : Core) → Reached g k c → (at : ℕ) → ran_of v (done c (Tick at)).core ≡ pick (eqb (tick_turn c at).who v) ((ran_of v c + 1) % 2 ^ 32) (ran_of v c)
   unfolding done
-  ran_moves k c p at = tick-ran c at p.shaped.records v (vm_small g d v low)
+  ran_moves k c p at = tick_ran c at p.shaped.records v (vm_small g d v low)
 
   age_law : (k : ℕ) (c : Core) → Reached g k c → (e : Event)
       → age_of v (step_of c e).core ≡ pick (begins v (moment step_of k c e)) 0 (pick (ticking (moment step_of k c e)) ((age_of v c + 1) % 2 ^ 32) (age_of v c))
@@ -176,13 +176,13 @@ module _ (g : Config) (d : Given g) (v : ℕ) (low : v < g.count) where
   ran_law k c p e = step_grown (λ w. w.ran) steady_ran g d v low (ran_in v) (λ m h. rw h) k c p (ran_moves k c p) e
 
   pub ages : (es : List Event) → age_of v (state_of step_of g es) ≡ age_in v (history step_of g es) % 2 ^ 32
-  ages es = counted step_of (Reached g) (step-at g d) (age_of v) (begins v) ticking age_law es 0 (fresh_core g) 0 (at_fresh g d) (fresh_zero (λ w. w.age) refl)
+  ages es = counted step_of (Reached g) (step_at g d) (age_of v) (begins v) ticking age_law es 0 (fresh_core g) 0 (at_fresh g d) (fresh_zero (λ w. w.age) refl)
     where
       fresh_zero : (f : Vm → ℕ) → f fresh ≡ 0 → f (vm_at (fresh_core g) v) ≡ 0
       fresh_zero f h = ap f (get_or-replicate 8 v fresh fresh (vm_small g d v low)) ∙ h
 
-  pub runs-counted : (es : List Event) → ran_of v (state_of step_of g es) ≡ ran_since v (history step_of g es) % 2 ^ 32
-  runs-counted es = counted step_of (Reached g) (step-at g d) (ran_of v) (begins v) (ran_in v) ran_law es 0 (fresh_core g) 0 (at_fresh g d) (fresh_zero (λ w. w.ran) refl)
+  pub runs_counted : (es : List Event) → ran_of v (state_of step_of g es) ≡ ran_since v (history step_of g es) % 2 ^ 32
+  runs_counted es = counted step_of (Reached g) (step_at g d) (ran_of v) (begins v) (ran_in v) ran_law es 0 (fresh_core g) 0 (at_fresh g d) (fresh_zero (λ w. w.ran) refl)
     where
       fresh_zero : (f : Vm → ℕ) → f fresh ≡ 0 → f (vm_at (fresh_core g) v) ≡ 0
       fresh_zero f h = ap f (get_or-replicate 8 v fresh fresh (vm_small g d v low)) ∙ h
@@ -198,11 +198,11 @@ tick_fields k c at v q small =
     (λ (s : Stepped). ran_in v (moment_of k c (Tick at) s) ≡ true
     → ((vm_at s.core v).status.since ≡ age_of v s.core) × ((vm_at s.core v).status.left ≡ s.core.clock.left) × ((vm_at s.core v).status.running ≡ ran_of v s.core))
     (λ n z h r. false_true (rw (ne_eqb n 0 h) at r))
-    (λ s z r. tick-shows c at q v small (eqb-true (tick_turn c at).who v r))
+    (λ s z r. tick_shows c at q v small (eqb-true (tick_turn c at).who v r))
 
 -- T4, D4, C5
 pub ours_clocks : Clocks step_of
-ours_clocks g d es = record { age = λ v low. ages g d v low es; ran = λ v low. runs-counted g d v low es }
+ours_clocks g d es = record { age = λ v low. ages g d v low es; ran = λ v low. runs_counted g d v low es }
 
 no_tick : {X : Type 0} (w r : Bool) → both (both w false) r ≡ true → X
 no_tick true r h = false_true h
@@ -219,7 +219,7 @@ ours_shows g d es (Tick at) v low h =
     record {
       age = f.0 ∙ ap (age_of v) (sym z) ∙ ages g d v low (es ++ (Tick at ∷ [])) ∙ ap (λ (ms : List Moment). age_in v ms % 2 ^ 32) m;
       left = f.1;
-      ran = f.2 ∙ ap (ran_of v) (sym z) ∙ runs-counted g d v low (es ++ (Tick at ∷ [])) ∙ ap (λ (ms : List Moment). ran_since v ms % 2 ^ 32) m;
+      ran = f.2 ∙ ap (ran_of v) (sym z) ∙ runs_counted g d v low (es ++ (Tick at ∷ [])) ∙ ap (λ (ms : List Moment). ran_since v ms % 2 ^ 32) m;
     }
 ours_shows g d es (Stop w) v low h = no_tick (went (next step_of g es (Stop w))) _ h
 ours_shows g d es (Shutdown w) v low h = no_tick (went (next step_of g es (Shutdown w))) _ h

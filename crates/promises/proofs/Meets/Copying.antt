@@ -9,7 +9,7 @@ use mathlib.Core.Path.{ap, refl, subst, sym, ◌∙◌, ◌≡◌}
 use native.Mathlib.Omega.{arith}
 use Rattle.basis.proofs.Laws.{both_left, both_right, false_true}
 use Rattle.basis.specs.Choice.{both, pick}
-use Rattle.rig_core.proofs.Copying.{by_refusal, copies-done, notice-told, refusal-told, stays-failed, stays-refused}
+use Rattle.rig_core.proofs.Copying.{by_refusal, copies_done, notice_told, refusal_told, stays_failed, stays_refused}
 use Rattle.rig_core.specs.Events.{done, failure_of, step_of}
 use Rattle.rig_core.specs.Memory.{memory_after, memory_as}
 use Rattle.rig_core.specs.Refusals.{refusal_of, refused}
@@ -31,7 +31,7 @@ module _ (k : ℕ) (c : Core) (p : Pieces) (w : Window) where
 
   -- a Copy that is done tells notice 3 or none
   quiet : (step_of c (Copy p w)).answer.refusal ≡ 0 → not (eqb (step_of c (Copy p w)).answer.notice.kind 3) ≡ true → (step_of c (Copy p w)).answer.notice.kind ≡ 0
-  quiet h z = go (eqb (failure_of c w p).code 0) (notice-told c p w n (step_of c (Copy p w)) form (sym (refusal-told c p w n (step_of c (Copy p w)) form) ∙ h))
+  quiet h z = go (eqb (failure_of c w p).code 0) (notice_told c p w n (step_of c (Copy p w)) form (sym (refusal_told c p w n (step_of c (Copy p w)) form) ∙ h))
     where
       go : (b : Bool) → (step_of c (Copy p w)).answer.notice.kind ≡ pick b 0 3 → (step_of c (Copy p w)).answer.notice.kind ≡ 0
       go true e = e
@@ -40,17 +40,17 @@ module _ (k : ℕ) (c : Core) (p : Pieces) (w : Window) where
   copy_moves : (bytes : List ℕ) → copying (moment step_of k c (Copy p w)) ≡ true → memory_after c (Copy p w) bytes ≡ copied_all w.base (take p.count (extents p)) bytes
   copy_moves bytes h =
       let r = eqb-true (step_of c (Copy p w)).answer.refusal 0 (both_left (eqb (step_of c (Copy p w)).answer.refusal 0) _ h) in
-      sym (copies-done c p w n (step_of c (Copy p w)) form bytes _ (extents p) r (quiet r (both_right (eqb (step_of c (Copy p w)).answer.refusal 0) _ h)) refl refl)
+      sym (copies_done c p w n (step_of c (Copy p w)) form bytes _ (extents p) r (quiet r (both_right (eqb (step_of c (Copy p w)).answer.refusal 0) _ h)) refl refl)
 
   copy_stays : (bytes : List ℕ) → copying (moment step_of k c (Copy p w)) ≡ false → memory_after c (Copy p w) bytes ≡ bytes
   copy_stays bytes h = go (eqb (step_of c (Copy p w)).answer.refusal 0) (eqb (step_of c (Copy p w)).answer.notice.kind 3) refl refl h
     where
       go : (a b : Bool) → eqb (step_of c (Copy p w)).answer.refusal 0 ≡ a → eqb (step_of c (Copy p w)).answer.notice.kind 3 ≡ b → both a (not b) ≡ false → memory_after c (Copy p w) bytes ≡ bytes
       go true true x y z =
-          sym (stays-failed c p w n (step_of c (Copy p w)) form bytes (eqb-true (step_of c (Copy p w)).answer.refusal 0 x)
+          sym (stays_failed c p w n (step_of c (Copy p w)) form bytes (eqb-true (step_of c (Copy p w)).answer.refusal 0 x)
           (λ i. omega (arith, i, eqb-true (step_of c (Copy p w)).answer.notice.kind 3 y)))
       go true false x y z = false_true (sym z)
-      go false b x y z = sym (stays-refused c p w n (step_of c (Copy p w)) form bytes (λ i. false_true (sym x ∙ ap (λ (n : ℕ). eqb n 0) i)))
+      go false b x y z = sym (stays_refused c p w n (step_of c (Copy p w)) form bytes (λ i. false_true (sym x ∙ ap (λ (n : ℕ). eqb n 0) i)))
 
 stays : (k : ℕ) (c : Core) (e : Event) (bytes : List ℕ) → copying (moment step_of k c e) ≡ false → memory_after c e bytes ≡ bytes
 unfolding memory_as

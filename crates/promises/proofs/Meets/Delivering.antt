@@ -22,9 +22,9 @@ use Rattle.rig_core.specs.Sound.{sound}
 use Rattle.rig_core.specs.State.{full, vm_at}
 use Rattle.rig_core.specs.declared.Core.{Core}
 use Rattle.rig_core.specs.declared.Stepped.{Stepped}
-use Rattle.core_laws.proofs.Facts.{running-below, sound_is}
+use Rattle.core_laws.proofs.Facts.{running_below, sound_is}
 use Rattle.core_laws.proofs.Refused.{done_number}
-use Rattle.core_laws.proofs.View.{call-case, copy_case, row_call, row_copy, row_shutdown, step_case}
+use Rattle.core_laws.proofs.View.{call_case, copy_case, row_call, row_copy, row_shutdown, step_case}
 use Rattle.event.specs.declared.Event.TheVariants.{Call, Copy, Extra, Fault, Restart, Shutdown, Start, Stop, Tick, Write}
 use Rattle.event.specs.declared.Event.{Event}
 use Rattle.guest.proofs.Facts.{deliver_hit, deliver_quiet, pend_address, pend_enabled, pend_pending}
@@ -36,11 +36,11 @@ use Rattle.guest.specs.declared.Status.{Status}
 use Rattle.guest.specs.declared.Vm.{Vm}
 use Rattle.history.proofs.Steps.{Reached, ours_at, vm_small}
 use Rattle.history.specs.History.{Moment, history, moment, moment_of, state_of, ticks_of}
-use Rattle.promises.proofs.Due.{found_none, highest-found}
+use Rattle.promises.proofs.Due.{found_none, highest_found}
 use Rattle.promises.proofs.Meets.Starting.{count_few}
-use Rattle.promises.proofs.Meets.Ticks.{passed_of, tick-enters, tick_number, tick_passes, tick_silent}
+use Rattle.promises.proofs.Meets.Ticks.{passed_of, tick_enters, tick_number, tick_passes, tick_silent}
 use Rattle.promises.specs.Delivering.{Delivered, Delivers, DeliversAtCall, DeliversAtTick, DeliversBy, DeliversOf, Enters, GoesOn, Highest, NoneDue, Offer, call_delivers, tick_offer}
-use Rattle.vms.proofs.Records.{passed-address, passed_status}
+use Rattle.vms.proofs.Records.{passed_address, passed_status}
 use Rattle.vms.specs.Tick.{number_of}
 
 -- ---- a delivery to a VM that has what the offer says
@@ -53,7 +53,7 @@ module _ (h : ℕ) (x : Vm) (o : Offer) (pending : x.status.pending ≡ o.pendin
 
   delivered_one : (n : ℕ) → Highest o n → (number_of (deliver h x).number ≡ n) × Enters h n o (deliver h x).vm
   delivered_one n e =
-      subst (λ (r : Delivery). (number_of r.number ≡ n) × Enters h n o r.vm) (sym (deliver_hit h n x (highest-found o x.status pending enabled n e)))
+      subst (λ (r : Delivery). (number_of r.number ≡ n) × Enters h n o r.vm) (sym (deliver_hit h n x (highest_found o x.status pending enabled n e)))
       (refl, record { reason = refl; previous = enabled; enabled = refl; pending = ap (clear_bit n) pending; resume = address; address = refl })
 
   pub delivered : (g : Config) (m : Moment) → m.answer.delivered ≡ number_of (deliver h x).number → vm_at m.after o.vm ≡ (deliver h x).vm → h ≡ handler_at g o.vm → Delivered g o m
@@ -74,10 +74,10 @@ module _ (g : Config) (d : Given g) (k : ℕ) (c : Core) (p : Reached g k c) whe
   unfolding done enter shown
   tick_delivers at =
       record {
-        to-runner = λ v h e. runner v (vm_small g d v h) e;
-        to-nobody = λ e. tick_silent c at e;
+        to_runner = λ v h e. runner v (vm_small g d v h) e;
+        to_nobody = λ e. tick_silent c at e;
         others = λ w n. ap (λ (x : Vm). x.status) (tick_passes c at w n) ∙ passed_status c.running at c.config.count c.vms w;
-        addresses = λ w h n. ap (λ (x : Vm). x.address) (tick_passes c at w n) ∙ passed-address c.running at c.config.count c.vms p.shaped.records w (vm_small g d w h);
+        addresses = λ w h n. ap (λ (x : Vm). x.address) (tick_passes c at w n) ∙ passed_address c.running at c.config.count c.vms p.shaped.records w (vm_small g d w h);
       }
     where
       runner : (v : ℕ) → v < 8 → (tick_turn c at).who ≡ v → Delivered g (tick_offer c at v) (moment_of k c (Tick at) (done c (Tick at)))
@@ -86,9 +86,9 @@ module _ (g : Config) (d : Given g) (k : ℕ) (c : Core) (p : Reached g k c) whe
           let s : w.status ≡ (vm_at c v).status = passed_status c.running at c.config.count c.vms v in
           delivered (handler_at c.config v) (shown (tick_clock c).left w) (tick_offer c at v)
           (ap (λ (y : Status). bit_or y.pending y.ontick) s) (ap (λ (y : Status). y.enabled) s)
-          (passed-address c.running at c.config.count c.vms p.shaped.records v small)
+          (passed_address c.running at c.config.count c.vms p.shaped.records v small)
           g (moment_of k c (Tick at) (done c (Tick at)))
-          (tick_number c at p.shaped.records v small e) (tick-enters c at p.shaped.records v small e) (handler_same v)
+          (tick_number c at p.shaped.records v small e) (tick_enters c at p.shaped.records v small e) (handler_same v)
 
   stored_at : (v : ℕ) (w : Vm) → v < c.config.count → get_or (set c.vms v w) v fresh ≡ w
   stored_at v w h = get_or-set_same c.vms v w fresh (let q = p.shaped.records in let n = count_few g d k c p in omega arith)
@@ -134,7 +134,7 @@ module _ (g : Config) (d : Given g) (k : ℕ) (c : Core) (p : Reached g k c) whe
     call_passes : call_delivers s n ≡ false → Passes (moment_of k c (Call s n at) (done c (Call s n at)))
     call_passes h =
         call_is (called c c.running s n vm) refl Passes
-        (call-case (λ (x : Change). Passes (of x)) c.running c.queue (full c) (handler_at c.config c.running) c.running s n vm
+        (call_case (λ (x : Change). Passes (of x)) c.running c.queue (full c) (handler_at c.config c.running) c.running s n vm
         (λ e. false_true (sym (rw e at h))) (λ e. false_true (sym (rw e at h))) (λ e i. false_true (sym (rw (e, le-leb n 31 i) at h)))
         (λ e i. (refl, stays (ended_as 4 vm) refl)) (λ e. (refl, stays (ended_as 3 vm) refl)) (λ e i. (refl, stays vm refl)) (λ e i. (refl, stays vm refl)) (λ e. (refl, stays (ended_as 4 vm) refl)))
       where
@@ -165,7 +165,7 @@ module _ (g : Config) (d : Given g) (k : ℕ) (c : Core) (p : Reached g k c) whe
       }
   done_delivers (Restart v) s r = refl
   done_delivers (Extra v) s r = refl
-  done_delivers (Call x n at) s r = call_delivers_lem x n at (running-below c p.shaped.records (sound_is c s) (row_call c x n at r).1)
+  done_delivers (Call x n at) s r = call_delivers_lem x n at (running_below c p.shaped.records (sound_is c s) (row_call c x n at r).1)
   done_delivers (Write o x) s r = refl
   done_delivers (Fault n x) s r = refl
   done_delivers (Copy q w) s r = record { never = both.0; saved = both.1 }
@@ -177,7 +177,7 @@ module _ (g : Config) (d : Given g) (k : ℕ) (c : Core) (p : Reached g k c) whe
       vm = saved_at q.next (vm_at c c.running)
 
       stays : (y : Vm) → y.address ≡ q.next → (get_or (set c.vms c.running y) c.running fresh).address ≡ q.next
-      stays y e = ap (λ (x : Vm). x.address) (stored_at c.running y (running-below c p.shaped.records (sound_is c s) (row_copy c q w r).1)) ∙ e
+      stays y e = ap (λ (x : Vm). x.address) (stored_at c.running y (running_below c p.shaped.records (sound_is c s) (row_copy c q w r).1)) ∙ e
 
       both : Passes (copying c w q)
       both =

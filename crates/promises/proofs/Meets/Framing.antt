@@ -21,8 +21,8 @@ use Rattle.rig_core.specs.Sound.{sound}
 use Rattle.rig_core.specs.State.{full, vm_at}
 use Rattle.rig_core.specs.declared.Core.{Core}
 use Rattle.rig_core.specs.declared.Stepped.{Stepped}
-use Rattle.core_laws.proofs.Facts.{running-below, sound_is}
-use Rattle.core_laws.proofs.View.{call-case, copy_case, row_call, row_copy, row_restart, row_shutdown, row_write}
+use Rattle.core_laws.proofs.Facts.{running_below, sound_is}
+use Rattle.core_laws.proofs.View.{call_case, copy_case, row_call, row_copy, row_restart, row_shutdown, row_write}
 use Rattle.event.specs.declared.Event.TheVariants.{Call, Copy, Extra, Fault, Restart, Shutdown, Start, Stop, Tick, Write}
 use Rattle.event.specs.declared.Event.{Event}
 use Rattle.guest.proofs.Facts.{pend_address, write_address}
@@ -38,10 +38,10 @@ use Rattle.history.proofs.Steps.{Reached, ours_at, vm_small}
 use Rattle.history.specs.History.{moment_of, state_of, ticks_of}
 use Rattle.promises.proofs.Fields.{each_field}
 use Rattle.promises.proofs.Meets.Starting.{when_done}
-use Rattle.promises.proofs.Meets.Ticks.{passed_of, tick-enters, tick_number, tick_passes}
+use Rattle.promises.proofs.Meets.Ticks.{passed_of, tick_enters, tick_number, tick_passes}
 use Rattle.promises.proofs.Meets.Tracing.{in_list, put_at}
 use Rattle.promises.specs.Framing.{Enabled, Field, Framed, Left, OnTick, Pending, Previous, Reason, Restore, Resume, Running, Since, Stores, is_field, moves_by, names_by, of_call, of_delivery, of_tick, offset_of, value_of}
-use Rattle.vms.proofs.Records.{passed-address, passed_status, store_keeps}
+use Rattle.vms.proofs.Records.{passed_address, passed_status, store_keeps}
 use Rattle.vms.specs.Tick.{number_of}
 
 -- ---- tests that do not hold
@@ -132,7 +132,7 @@ module _ (g : Config) (d : Given g) (k : ℕ) (c : Core) (p : Reached g k c) whe
         | yes e ↦ (let small = vm_small g d v l in
             let w : Vm = get_or (passed_of c at) v fresh in
             let q = either_off (of_tick f) _ (both_off (eqb (tick_turn c at).who v) _ h (eq-eqb (tick_turn c at).who v e)) in
-            ap (λ (x : Vm). value_of f x.status) (tick-enters c at p.shaped.records v small e)
+            ap (λ (x : Vm). value_of f x.status) (tick_enters c at p.shaped.records v small e)
             ∙ deliver_field f (handler_at c.config v) (shown (tick_clock c).left w) (rw (tick_number c at p.shaped.records v small e) at q.1)
             ∙ shown_field f q.0 (tick_clock c).left w
             ∙ ap (value_of f) (passed_status c.running at c.config.count c.vms v))
@@ -144,7 +144,7 @@ module _ (g : Config) (d : Given g) (k : ℕ) (c : Core) (p : Reached g k c) whe
   tick_address at v l h =
       let q = either_off (eqb (tick_turn c at).who v) _ h in
       ap (λ (x : Vm). x.address) (tick_passes c at v (eqb-false (tick_turn c at).who v q.0))
-      ∙ passed-address c.running at c.config.count c.vms p.shaped.records v (vm_small g d v l)
+      ∙ passed_address c.running at c.config.count c.vms p.shaped.records v (vm_small g d v l)
       ∙ rw (eqb_swap v c.running, q.1)
 
   -- ---- a Call
@@ -153,7 +153,7 @@ module _ (g : Config) (d : Given g) (k : ℕ) (c : Core) (p : Reached g k c) whe
       → value_of f (vm_at (done c (Call s n at)).core v).status ≡ value_of f (vm_at c v).status
   unfolding done
   call_field s n at v low f =
-      call-case P c.running c.queue (full c) hd c.running s n w
+      call_case P c.running c.queue (full c) hd c.running s n w
       (λ h z. put _ (λ e. deliver_field f hd w (names z e).1))
       (λ h z. put _ (λ e. deliver_field f hd (back_from w) (names z e).1 ∙ back_field f (either_off _ _ (rw h at (names z e).0)).0 w))
       (λ h i z. put _ (λ e. deliver_field f hd (pend n w) (names z e).1 ∙ pend_field f (rw (h, le-leb n 31 i) at (names z e).0) n w))
@@ -177,7 +177,7 @@ module _ (g : Config) (d : Given g) (k : ℕ) (c : Core) (p : Reached g k c) whe
   call_address : (s n at v : ℕ) → c.running < c.config.count → eqb c.running v ≡ false → (vm_at (done c (Call s n at)).core v).address ≡ (vm_at c v).address
   unfolding done
   call_address s n at v low h =
-      call-case (λ (x : Change). (vm_at (changed_by c x).core v).address ≡ (vm_at c v).address) c.running c.queue (full c) (handler_at c.config c.running) c.running s n (saved_at at (vm_at c c.running))
+      call_case (λ (x : Change). (vm_at (changed_by c x).core v).address ≡ (vm_at c v).address) c.running c.queue (full c) (handler_at c.config c.running) c.running s n (saved_at at (vm_at c c.running))
       (λ i. out _) (λ i. out _) (λ i j. out _) (λ i j. out _) (λ i. out _) (λ i j. out _) (λ i j. out _) (λ i. out _)
     where
       out : (y : Vm) → (get_or (set c.vms c.running y) v fresh).address ≡ (vm_at c v).address
@@ -186,7 +186,7 @@ module _ (g : Config) (d : Given g) (k : ℕ) (c : Core) (p : Reached g k c) whe
   -- ---- each event
 
   runner_low : sound c ≡ true → (c.running ≡ 255 → ⊥) → c.running < c.config.count
-  runner_low s h = running-below c p.shaped.records (sound_is c s) h
+  runner_low s h = running_below c p.shaped.records (sound_is c s) h
 
   done_field : (e : Event) → sound c ≡ true → row_of c e ≡ 0 → (v : ℕ) → v < g.count → (f : Field) → names_by v (moment_of k c e (done c e)) e f ≡ false
       → value_of f (vm_at (done c e).core v).status ≡ value_of f (vm_at c v).status

@@ -8,13 +8,13 @@ use Rattle.basis.proofs.Laws.{false_true}
 use Rattle.config.specs.declared.Config.{Config}
 use Rattle.rig_core.specs.Events.{step_of}
 use Rattle.core_laws.proofs.Events.{sound_step}
-use Rattle.core_laws.proofs.Facts.{entries-len, sound_is}
+use Rattle.core_laws.proofs.Facts.{entries_len, sound_is}
 use Rattle.history.proofs.Lawful.{Lawful, lawful}
-use Rattle.history.proofs.Steps.{ours_at, step-at}
+use Rattle.history.proofs.Steps.{ours_at, step_at}
 use Rattle.history.specs.History.{Moment, next, state_of}
 use Rattle.history.specs.Queueing.{Add, Effect, Keep, Remove, Take, affected, effect, is_remove, removed_from, removes}
 use Rattle.promises.proofs.Meets.Starting.{ours_stays_sound}
-use Rattle.promises.proofs.Meets.Tracing.{ours-queue}
+use Rattle.promises.proofs.Meets.Tracing.{ours_queue}
 use Rattle.promises.specs.Answering.{Removing}
 use Rattle.queue.proofs.Meaning.{others_count}
 use Rattle.queue.specs.Entries.{entries}
@@ -37,6 +37,6 @@ ours_removing g d es e =
     let i = ours_at g d es in
     let l = lawful g d _ _ i e in
     let s = ours_stays_sound g d es in
-    let before = entries-len c i.shaped (sound_is c s) in
-    let after = entries-len (step_of c e).core (step-at g d _ _ i e).shaped (sound_is _ (sound_step c e i.shaped s)) in
-    record { count = l.removed ∙ ap (removed_from (effect g (next step_of g es e))) (ours-queue g d es); shorter = λ v h. omega (arith, before, after, removed_law g (next step_of g es e) l v h) }
+    let before = entries_len c i.shaped (sound_is c s) in
+    let after = entries_len (step_of c e).core (step_at g d _ _ i e).shaped (sound_is _ (sound_step c e i.shaped s)) in
+    record { count = l.removed ∙ ap (removed_from (effect g (next step_of g es e))) (ours_queue g d es); shorter = λ v h. omega (arith, before, after, removed_law g (next step_of g es e) l v h) }

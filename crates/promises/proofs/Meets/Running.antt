@@ -21,18 +21,18 @@ use Rattle.rig_core.specs.Events.{done, failure_of, start_core, step_of, tick_cl
 use Rattle.rig_core.specs.State.{full, ready_at, vm_at}
 use Rattle.rig_core.specs.declared.Core.{Core}
 use Rattle.rig_core.specs.declared.Stepped.{Stepped}
-use Rattle.core_laws.proofs.View.{call-case, copy_case}
+use Rattle.core_laws.proofs.View.{call_case, copy_case}
 use Rattle.event.specs.Kinds.{is_tick}
 use Rattle.event.specs.declared.Event.TheVariants.{Call, Copy, Extra, Fault, Restart, Shutdown, Start, Stop, Tick, Write}
 use Rattle.event.specs.declared.Event.{Event}
 use Rattle.guest.specs.Record.{saved_at}
 use Rattle.history.proofs.Lawful.{lawful, runner_by}
-use Rattle.history.proofs.Steps.{Reached, ours_at, tick-placed}
+use Rattle.history.proofs.Steps.{Reached, ours_at, tick_placed}
 use Rattle.history.specs.History.{Moment, history, state_of, ticks_of}
 use Rattle.history.specs.Telling.{chosen_in, ended_by, queue_in}
 use Rattle.promises.proofs.Meets.Answering.{ours_tells}
 use Rattle.promises.proofs.Meets.Starting.{when_done}
-use Rattle.promises.proofs.Meets.Tracing.{ours-queue, ours-standing}
+use Rattle.promises.proofs.Meets.Tracing.{ours_queue, ours_standing}
 use Rattle.promises.specs.Tracing.{Runs}
 use Rattle.queue.specs.Entries.{front_of}
 use Rattle.table.specs.Place.{table_at}
@@ -56,7 +56,7 @@ module _ (c : Core) where
   call_running : (s n at : ℕ) → GoesOn (Call s n at) (done c (Call s n at))
   unfolding done running_without
   call_running s n at =
-      call-case (λ (x : Change). GoesOn (Call s n at) (changed_by c x)) c.running c.queue (full c) (handler_at c.config c.running) c.running s n (saved_at at (vm_at c c.running))
+      call_case (λ (x : Change). GoesOn (Call s n at) (changed_by c x)) c.running c.queue (full c) (handler_at c.config c.running) c.running s n (saved_at at (vm_at c c.running))
       (λ e. rw (e, z)) (λ e. rw (e, z)) (λ e i. rw (e, le-leb n 31 i, z)) (λ e i. rw (e, lt-leb n 31 i, z)) (λ e. rw (e, z)) (λ e i. rw (e, z)) (λ e i. rw (e, z))
       (λ e. rw (ne_eqb s 2 (λ q. omega arith), ne_eqb s 3 (λ q. omega arith), lt-leb s 4 e, z))
     where
@@ -83,7 +83,7 @@ module _ (c : Core) where
 -- whom the table names is a VM of the configuration, or nobody
 named_few : (g : Config) → Given g → (k : ℕ) (c : Core) → Reached g k c → (table_at g k ≡ nobody) ⊎ (table_at g k < g.count)
 named_few g d k c p =
-    let t = tick-placed g d k c p in
+    let t = tick_placed g d k c p in
     subst (λ (o : ℕ). (o ≡ nobody) ⊎ (o < g.count)) t.owner ((legal_is g d.legal).owned (tick_clock c).slot t.slot)
 
 module _ (g : Config) (d : Given g) (es : List Event) where
@@ -100,9 +100,9 @@ module _ (g : Config) (d : Given g) (es : List Event) where
   unfolding runner_of
   chosen =
       ⊎_elim
-      (λ z. rw z (ap front_of (ours-queue g d es)))
-      (λ l. ap (λ (q : List ℕ). pick (is_spare (table_at g k)) (front_of q) (pick (ready_at c (table_at g k)) (table_at g k) nobody)) (ours-queue g d es)
-      ∙ ap (λ (t : ℕ). pick (is_spare (table_at g k)) (front_of (queue_in g ms)) (pick (eqb t 1) (table_at g k) nobody)) (ours-standing g d es (table_at g k) l))
+      (λ z. rw z (ap front_of (ours_queue g d es)))
+      (λ l. ap (λ (q : List ℕ). pick (is_spare (table_at g k)) (front_of q) (pick (ready_at c (table_at g k)) (table_at g k) nobody)) (ours_queue g d es)
+      ∙ ap (λ (t : ℕ). pick (is_spare (table_at g k)) (front_of (queue_in g ms)) (pick (eqb t 1) (table_at g k) nobody)) (ours_standing g d es (table_at g k) l))
       (named_few g d k c (ours_at g d es))
 
 -- D2, D6, D7, D15, D19, D23, D28

@@ -16,14 +16,14 @@ use Rattle.rig_core.specs.declared.Core.{Core}
 use Rattle.event.specs.declared.Event.{Event}
 use Rattle.history.proofs.Counts.{num, times_cons, times_nil}
 use Rattle.history.proofs.Lawful.{Lawful, lawful}
-use Rattle.history.proofs.More.{each-told}
-use Rattle.history.proofs.Steps.{Reached, ours_at, step-at, vm_small}
-use Rattle.history.proofs.Ticking.{else-spare, handed-front, named-runs, tick-of}
+use Rattle.history.proofs.More.{each_told}
+use Rattle.history.proofs.Steps.{Reached, ours_at, step_at, vm_small}
+use Rattle.history.proofs.Ticking.{else_spare, handed_front, named_runs, tick_of}
 use Rattle.history.specs.History.{Behaviour, Moment, moment, moments, state_of, stretch, ticking, ticks_after, ticks_of, times}
 use Rattle.history.specs.Moments.{asks, handed, naming, ran_in, runs, spare}
 use Rattle.history.specs.Telling.{queue_after, standing_after}
 use Rattle.promises.proofs.Meets.Accounts.{balance}
-use Rattle.promises.proofs.Meets.Tracing.{ours-queue, ours-standing, step-queue, step-standing}
+use Rattle.promises.proofs.Meets.Tracing.{ours_queue, ours_standing, step_queue, step_standing}
 use Rattle.promises.specs.Sharing.{EachQueued, EachStanding, Slices}
 use Rattle.queue.specs.Entries.{entries, entries_of, front_of}
 
@@ -42,13 +42,13 @@ module _ (g : Config) (v : ℕ) (small : v < nobody) (m : Moment) (l : Lawful g 
       not_spare h = go (spare g m) refl
         where
           go : (b : Bool) → spare g m ≡ b → b ≡ false
-          go true e = absurd (omega (arith, (tick-of g v small m l v h).1, (tick-of g v small m l nobody e).1))
+          go true e = absurd (omega (arith, (tick_of g v small m l v h).1, (tick_of g v small m l nobody e).1))
           go false e = refl
 
       by_named : ticking m ≡ true → (b r : Bool) → naming g v m ≡ b → runs v m ≡ r → num r ≡ num b + num (both (spare g m) r)
       by_named t true true h e = rw (not_spare h)
-      by_named t true false h e = false_true (sym e ∙ named-runs g v small m l h (ready t))
-      by_named t false true h e = rw (else-spare g v small m l t e h)
+      by_named t true false h e = false_true (sym e ∙ named_runs g v small m l h (ready t))
+      by_named t false true h e = rw (else_spare g v small m l t e h)
       by_named t false false h e = off (spare g m)
         where
           off : (b : Bool) → 0 ≡ 0 + num (both b false)
@@ -89,27 +89,27 @@ module _ (g : Config) (d : Given g) (v : ℕ) (low : v < g.count) (es fs : List 
 
   named : EachStanding v (λ t m. naming g v m ≡ true → t ≡ 1 → runs v m ≡ true) (vm_at (state_of step_of g es) v).standing (stretch step_of g es fs)
   named =
-      each-told step_of (Reached g) (step-at g d) ℕ (λ c. (vm_at c v).standing) (standing_after v) (λ k c p e. step-standing g d k c p v low e) _
-      (λ k c p e h t. named-runs g v small (moment step_of k c e) (lawful g d k c p e) h (eq-eqb (vm_at c v).standing 1 t)) fs (ticks_of step_of g es) (state_of step_of g es) (ours_at g d es)
+      each_told step_of (Reached g) (step_at g d) ℕ (λ c. (vm_at c v).standing) (standing_after v) (λ k c p e. step_standing g d k c p v low e) _
+      (λ k c p e h t. named_runs g v small (moment step_of k c e) (lawful g d k c p e) h (eq-eqb (vm_at c v).standing 1 t)) fs (ticks_of step_of g es) (state_of step_of g es) (ours_at g d es)
 
   handed_on : EachQueued g (λ q m. ticking m ≡ true → runs v m ≡ true → naming g v m ≡ false → (spare g m ≡ true) × (front_of q ≡ v)) (entries (state_of step_of g es).queue) (stretch step_of g es fs)
   handed_on =
-      each-told step_of (Reached g) (step-at g d) (List ℕ) (λ c. entries c.queue) (queue_after g) (λ k c p e. step-queue g d k c p e) _
-      (λ k c p e t r n. (let m = moment step_of k c e in let l = lawful g d k c p e in let s = else-spare g v small m l t r n in (s, handed-front g v small m l s r)))
+      each_told step_of (Reached g) (step_at g d) (List ℕ) (λ c. entries c.queue) (queue_after g) (λ k c p e. step_queue g d k c p e) _
+      (λ k c p e t r n. (let m = moment step_of k c e in let l = lawful g d k c p e in let s = else_spare g v small m l t r n in (s, handed_front g v small m l s r)))
       fs (ticks_of step_of g es) (state_of step_of g es) (ours_at g d es)
 
 -- D6, D7, D10
 pub ours_slices : Slices step_of
 ours_slices g d v low es fs =
-    let t = ours-standing g d es v low in
-    let q = ours-queue g d es in
+    let t = ours_standing g d es v low in
+    let q = ours_queue g d es in
     let p = ours_at g d es in
     let k = ticks_of step_of g es in
     let c = state_of step_of g es in
     let few = small g d v low es fs in
     record {
       runs_named = rw t at (named g d v low es fs);
-      else-handed = rw q at (handed_on g d v low es fs);
-      exactly = λ r. adds g step_of (Reached g) (step-at g d) (lawful g d) v few (λ k c p e. step-standing g d k c p v low e) fs k c p (rw t r);
-      at_most = rw q at (bounded g step_of (Reached g) (step-at g d) (lawful g d) v few fs k c p);
+      else_handed = rw q at (handed_on g d v low es fs);
+      exactly = λ r. adds g step_of (Reached g) (step_at g d) (lawful g d) v few (λ k c p e. step_standing g d k c p v low e) fs k c p (rw t r);
+      at_most = rw q at (bounded g step_of (Reached g) (step_at g d) (lawful g d) v few fs k c p);
     }

@@ -54,17 +54,17 @@ module _ (g : Config) (d : Given g) (k : ℕ) (c : Core) (p : Reached g k c) whe
   pub count_few : c.config.count ≤ 8
   count_few = let h = (legal_is g d.legal).vms.1 in let e = ap (λ (x : Config). x.count) p.same in omega arith
 
-  pub start-ready : (v : ℕ) → v < g.count → vm_at (done c Start).core v ≡ started_at (entry_at g v)
+  pub start_ready : (v : ℕ) → v < g.count → vm_at (done c Start).core v ≡ started_at (entry_at g v)
   unfolding done start_core
-  start-ready v h =
+  start_ready v h =
       let e = ap (λ (x : Config). x.count) p.same in
       let l : v < c.config.count = omega arith in
       each_at (λ k v. started_at (get_or c.config.entries k 0)) c.vms c.config.count v (let q = p.shaped.records in let n = count_few in omega arith)
       ∙ rw (lt-ltb v c.config.count l) (ap (λ (x : Config). started_at (entry_at x v)) p.same)
 
-  pub restart-ready : (v : ℕ) → v < c.config.count → vm_at (done c (Restart v)).core v ≡ started_at (entry_at g v)
+  pub restart_ready : (v : ℕ) → v < c.config.count → vm_at (done c (Restart v)).core v ≡ started_at (entry_at g v)
   unfolding done
-  restart-ready v h =
+  restart_ready v h =
       get_or-set_same c.vms v (started_at (entry_at c.config v)) fresh (let q = p.shaped.records in let n = count_few in omega arith)
       ∙ ap (λ (x : Config). started_at (entry_at x v)) p.same
 
@@ -75,7 +75,7 @@ no_begin w h = false_true (both_right w false h)
 pub ours_starts : Starts step_of
 unfolding begins
 ours_starts g d es Start v l h =
-    when_done (ticks_of step_of g es) (state_of step_of g es) Start (λ (s : Stepped). vm_at s.core v ≡ begun_at (entry_at g v)) (λ s r. start-ready g d _ _ (ours_at g d es) v l)
+    when_done (ticks_of step_of g es) (state_of step_of g es) Start (λ (s : Stepped). vm_at s.core v ≡ begun_at (entry_at g v)) (λ s r. start_ready g d _ _ (ours_at g d es) v l)
     (both_left (went (next step_of g es Start)) true h)
 ours_starts g d es (Tick at) v l h = no_begin (went (next step_of g es (Tick at))) h
 ours_starts g d es (Stop w) v l h = no_begin (went (next step_of g es (Stop w))) h
@@ -84,7 +84,7 @@ ours_starts g d es (Restart w) v l h =
     let e : w ≡ v = eqb-true w v (both_right (went (next step_of g es (Restart w))) (eqb w v) h) in
     subst (λ (i : ℕ). vm_at (step_of (state_of step_of g es) (Restart w)).core i ≡ begun_at (entry_at g i)) e
     (when_done (ticks_of step_of g es) (state_of step_of g es) (Restart w) (λ (s : Stepped). vm_at s.core w ≡ begun_at (entry_at g w))
-    (λ s r. restart-ready g d _ _ (ours_at g d es) w (row_restart (state_of step_of g es) w r).1) (both_left (went (next step_of g es (Restart w))) (eqb w v) h))
+    (λ s r. restart_ready g d _ _ (ours_at g d es) w (row_restart (state_of step_of g es) w r).1) (both_left (went (next step_of g es (Restart w))) (eqb w v) h))
 ours_starts g d es (Extra w) v l h = no_begin (went (next step_of g es (Extra w))) h
 ours_starts g d es (Call i n at) v l h = no_begin (went (next step_of g es (Call i n at))) h
 ours_starts g d es (Write o x) v l h = no_begin (went (next step_of g es (Write o x))) h

@@ -15,7 +15,7 @@ use Rattle.core_laws.proofs.Refused.{done_number}
 use Rattle.core_laws.proofs.View.{step_case}
 use Rattle.event.specs.Kinds.{is_tick}
 use Rattle.event.specs.declared.Event.{Event}
-use Rattle.history.proofs.Steps.{after-inv, ours_at}
+use Rattle.history.proofs.Steps.{after_inv, ours_at}
 use Rattle.history.specs.History.{moment, moment_of, ticks_after}
 use Rattle.promises.specs.Timing.{Table}
 
@@ -38,4 +38,4 @@ step_unentered k c i e =
 pub ours_table : Table step_of
 ours_table g d es =
     let p = ours_at g d es in
-    record { kept = p.same; stands = p.stands; unentered = after-inv step_of Unentered step_unentered es 0 (fresh_core g) (λ z. (refl, refl)) }
+    record { kept = p.same; stands = p.stands; unentered = after_inv step_of Unentered step_unentered es 0 (fresh_core g) (λ z. (refl, refl)) }

@@ -15,15 +15,15 @@ use Rattle.rig_core.specs.Events.{step_of}
 use Rattle.rig_core.specs.declared.Core.{Core}
 use Rattle.event.specs.declared.Event.{Event}
 use Rattle.history.proofs.Counts.{num, times_cons, times_nil}
-use Rattle.history.proofs.Effects.{is_take, removes-is, spare-is}
+use Rattle.history.proofs.Effects.{is_take, removes_is, spare_is}
 use Rattle.history.proofs.Lawful.{Lawful, lawful}
-use Rattle.history.proofs.Steps.{Reached, ours_at, step-at, vm_small}
-use Rattle.history.proofs.Ticking.{asks_adds, spare-front}
+use Rattle.history.proofs.Steps.{Reached, ours_at, step_at, vm_small}
+use Rattle.history.proofs.Ticking.{asks_adds, spare_front}
 use Rattle.history.specs.History.{Behaviour, Moment, history, moment, moments, next, ticks_after, times}
 use Rattle.history.specs.Moments.{runs, spare}
 use Rattle.history.specs.Queueing.{Add, Effect, Entry, Follows, Keep, Remove, Take, affected, effect, entries_not, followed, is_remove, marked, mine_first, plain, served_in, tail}
 use Rattle.history.specs.Telling.{ends, queue_in}
-use Rattle.promises.proofs.Meets.Tracing.{ours-queue}
+use Rattle.promises.proofs.Meets.Tracing.{ours_queue}
 use Rattle.promises.specs.Sharing.{Waiting}
 use Rattle.queue.proofs.Meaning.{others_length}
 use Rattle.queue.specs.Entries.{entries, front_of, others, rest}
@@ -92,19 +92,19 @@ module _ (g : Config) (v : ℕ) (small : v < nobody) (m : Moment) (l : Lawful g 
       → effect g m ≡ Take → spare g m ≡ true → entries m.after.queue ≡ rest (entries m.before.queue)
       → pick (both (spare g m) (mine_first (map plain p ++ (marked v ∷ z)))) (runs v m) (served_in g v (followed (effect g m) (map plain p ++ (marked v ∷ z))) ms) ≡ true
   unfolding front_of
-  take_step [] z e n i k a = rw k (eq-eqb m.answer.running v (spare-front g v small m l k ∙ ap front_of (sym e)))
+  take_step [] z e n i k a = rw k (eq-eqb m.answer.running v (spare_front g v small m l k ∙ ap front_of (sym e)))
   take_step (x ∷ p) z e n i k a = rw (k, i) (ih p z (on Take (map plain (x ∷ p) ++ (marked v ∷ z)) e a) (omega (arith, n, ap num k)))
 
   wait_step : (p : List ℕ) (z : List Entry) → vms_of (map plain p ++ (marked v ∷ z)) ≡ entries m.before.queue → length p < num (spare g m) + times (spare g) ms
       → served_in g v (map plain p ++ (marked v ∷ z)) (m ∷ ms) ≡ true
   unfolding served_in
-  wait_step p z e n = go (effect g m) refl (spare-is g m) l.queue
+  wait_step p z e n = go (effect g m) refl (spare_is g m) l.queue
     where
       q : List Entry
       q = map plain p ++ (marked v ∷ z)
 
       other : (w : ℕ) → effect g m ≡ Remove w → eqb v w ≡ false
-      other w i = eqb_swap v w ∙ sym (ap (is_remove v) i) ∙ removes-is g m v ∙ stays
+      other w i = eqb_swap v w ∙ sym (ap (is_remove v) i) ∙ removes_is g m v ∙ stays
 
       go : (f : Effect) → effect g m ≡ f → spare g m ≡ is_take f → entries m.after.queue ≡ affected f (entries m.before.queue)
           → pick (both (spare g m) (mine_first q)) (runs v m) (served_in g v (followed (effect g m) q) ms) ≡ true
@@ -147,13 +147,13 @@ ours_waiting g d v h es e fs a =
     let small : v < nobody = omega (arith, vm_small g d v h) in
     let i = ours_at g d es in
     let m = next step_of g es e in
-    let j = step-at g d _ _ i e in
+    let j = step_at g d _ _ i e in
     let l = lawful g d _ _ i e in
     let q = queue_in g (history step_of g es) in
-    let before : entries m.before.queue ≡ q = ours-queue g d es in
+    let before : entries m.before.queue ≡ q = ours_queue g d es in
     let joins : vms_of (map plain q ++ (marked v ∷ [])) ≡ entries m.after.queue =
     vms_append (map plain q) (marked v ∷ []) ∙ ap (λ (x : List ℕ). x ++ (v ∷ [])) (vms_plain q) ∙ sym (l.queue ∙ ap (λ (f : Effect). affected f (entries m.before.queue)) (asks_adds g v m a) ∙ ap (λ (x : List ℕ). x ++ (v ∷ [])) before) in
     record {
-      is-queue = follows g step_of (Reached g) (step-at g d) (lawful g d) v small fs (ticks_after m) m.after j (map plain q ++ (marked v ∷ [])) joins;
-      served = wait g step_of (Reached g) (step-at g d) (lawful g d) v small fs (ticks_after m) m.after j q [] joins;
+      is_queue = follows g step_of (Reached g) (step_at g d) (lawful g d) v small fs (ticks_after m) m.after j (map plain q ++ (marked v ∷ [])) joins;
+      served = wait g step_of (Reached g) (step_at g d) (lawful g d) v small fs (ticks_after m) m.after j q [] joins;
     }

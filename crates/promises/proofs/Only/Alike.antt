@@ -20,7 +20,7 @@ use Rattle.history.specs.History.{Moment, moment_of}
 use Rattle.history.specs.Moments.{begins}
 use Rattle.promises.proofs.Due.{due_either}
 use Rattle.promises.proofs.Fields.{each_field}
-use Rattle.promises.proofs.Only.Fits.{Alike, SameField, Two, age-told, ran-told, same-clock, told-running, unmoved, unnamed}
+use Rattle.promises.proofs.Only.Fits.{Alike, SameField, Two, age_told, ran_told, same_clock, told_running, unmoved, unnamed}
 use Rattle.promises.specs.Delivering.{Delivered, Highest, NoneDue, Offer, call_delivers, inject_offer, return_offer, sync_offer, tick_offer}
 use Rattle.promises.specs.Framing.{Enabled, Field, Left, OnTick, Pending, Previous, Reason, Restore, Resume, Running, Since, is_field, of_call, of_delivery, of_tick, offset_of}
 use Rattle.table.specs.declared.Clock.{Clock}
@@ -72,19 +72,19 @@ module _ (g : Config) (o : Offer) (m n : Moment) (p : Delivered g o m) (q : Deli
           address = a.address ∙ sym b.address;
         }
 
-    pub alike-delivered : Alike o.vm m.after n.after
-    alike-delivered = ⊎_elim alike_quiet (λ z. alike_given z.0 z.1) (due_either o)
+    pub alike_delivered : Alike o.vm m.after n.after
+    alike_delivered = ⊎_elim alike_quiet (λ z. alike_given z.0 z.1) (due_either o)
 
 -- ---- a tick
 
 module _ {g : Config} {ms : List Moment} {k : ℕ} {c : Core} {at : ℕ} {s t : Stepped} (w : Two g ms k c (Tick at) s t) (v : ℕ) (l : v < g.count) where
   tick_runs : s.answer.running ≡ v → t.answer.running ≡ v → Alike v s.core t.core
   tick_runs a b =
-      let i = w.one.shows v l (rw (w.went-one, eq-eqb s.answer.running v a)) in
-      let j = w.two.shows v l (rw (w.went-two, eq-eqb t.answer.running v b)) in
-      alike-delivered g (tick_offer c at v) (moment_of k c (Tick at) s) (moment_of k c (Tick at) t)
-      ((w.one.delivers.accepted w.went-one).to-runner v l a) ((w.two.delivers.accepted w.went-two).to-runner v l b)
-      (i.age ∙ age-told w v ∙ sym j.age, i.left ∙ ap (λ (z : Clock). z.left) (same-clock w) ∙ sym j.left, kept Restore refl refl, kept OnTick refl refl, i.ran ∙ ran-told w v ∙ sym j.ran)
+      let i = w.one.shows v l (rw (w.went_one, eq-eqb s.answer.running v a)) in
+      let j = w.two.shows v l (rw (w.went_two, eq-eqb t.answer.running v b)) in
+      alike_delivered g (tick_offer c at v) (moment_of k c (Tick at) s) (moment_of k c (Tick at) t)
+      ((w.one.delivers.accepted w.went_one).to_runner v l a) ((w.two.delivers.accepted w.went_two).to_runner v l b)
+      (i.age ∙ age_told w v ∙ sym j.age, i.left ∙ ap (λ (z : Clock). z.left) (same_clock w) ∙ sym j.left, kept Restore refl refl, kept OnTick refl refl, i.ran ∙ ran_told w v ∙ sym j.ran)
       (λ d e. (quiet d e Resume refl, quiet d e Reason refl, quiet d e Previous refl))
     where
       kept : (f : Field) → of_tick f ≡ false → of_delivery f ≡ false → SameField v s.core t.core f
@@ -97,12 +97,12 @@ module _ {g : Config} {ms : List Moment} {k : ℕ} {c : Core} {at : ℕ} {s t : 
   tick_passes a b =
       record {
         fields = λ f. unnamed w v l f (rw (ne_eqb s.answer.running v a)) (rw (ne_eqb t.answer.running v b));
-        address = (w.one.delivers.accepted w.went-one).addresses v l a ∙ sym ((w.two.delivers.accepted w.went-two).addresses v l b);
+        address = (w.one.delivers.accepted w.went_one).addresses v l a ∙ sym ((w.two.delivers.accepted w.went_two).addresses v l b);
       }
 
   tick_alike : Alike v s.core t.core
   tick_alike =
-      let r = told-running w in
+      let r = told_running w in
       elim (ℕ_discrete s.answer.running v) [
         | yes a ↦ tick_runs a (sym r ∙ a)
         | no a ↦ tick_passes a (λ b. a (r ∙ b))
@@ -134,7 +134,7 @@ module _ {g : Config} {ms : List Moment} {k : ℕ} {c : Core} {i n at : ℕ} {s 
     call_delivers_lem : (o : Offer) → o.vm ≡ c.running → Delivered g o (moment_of k c (Call i n at) s) → Delivered g o (moment_of k c (Call i n at) t) → Alike c.running s.core t.core
     call_delivers_lem o e a b =
         subst (λ (v : ℕ). Alike v s.core t.core) e
-        (alike-delivered g o (moment_of k c (Call i n at) s) (moment_of k c (Call i n at) t) a b
+        (alike_delivered g o (moment_of k c (Call i n at) s) (moment_of k c (Call i n at) t) a b
         (still Since refl refl refl, still Left refl refl refl, still Restore refl refl refl, still OnTick refl refl refl, still Running refl refl refl)
         (λ d x. (quiet d x Resume refl refl, quiet d x Reason refl refl, quiet d x Previous refl refl)))
       where
@@ -149,8 +149,8 @@ module _ {g : Config} {ms : List Moment} {k : ℕ} {c : Core} {i n at : ℕ} {s 
 
     call_other : call_delivers i n ≡ false → Alike c.running s.core t.core
     call_other h =
-        let a = w.one.delivers.accepted w.went-one in
-        let b = w.two.delivers.accepted w.went-two in
+        let a = w.one.delivers.accepted w.went_one in
+        let b = w.two.delivers.accepted w.went_two in
         record {
           fields = λ f. call_kept f (rw (call_none i n f h, a.never h) (both_no (of_delivery f))) (rw (call_none i n f h, b.never h) (both_no (of_delivery f)));
           address = a.saved h ∙ sym (b.saved h);
@@ -158,8 +158,8 @@ module _ {g : Config} {ms : List Moment} {k : ℕ} {c : Core} {i n at : ℕ} {s 
 
     call_self : Alike c.running s.core t.core
     call_self =
-        let a = w.one.delivers.accepted w.went-one in
-        let b = w.two.delivers.accepted w.went-two in
+        let a = w.one.delivers.accepted w.went_one in
+        let b = w.two.delivers.accepted w.went_two in
         by_service (λ z. call_delivers_lem (sync_offer c at) refl (a.sync z) (b.sync z)) (λ z. call_delivers_lem (return_offer c) refl (a.return z) (b.return z))
         (λ z y. call_delivers_lem (inject_offer c n at) refl (a.inject z y) (b.inject z y)) call_other
 
@@ -177,7 +177,7 @@ module _ {g : Config} {ms : List Moment} {k : ℕ} {c : Core} {x : ℕ} {s t : S
   shut_self l =
       record {
         fields = each_field (SameField x s.core t.core) (rest Since refl) (rest Left refl) (rest Enabled refl)
-            ((w.one.delivers.accepted w.went-one).waits ∙ sym (w.two.delivers.accepted w.went-two).waits) (rest Resume refl) (rest Reason refl) (rest Previous refl) (rest Restore refl) (rest OnTick refl) (rest Running refl);
+            ((w.one.delivers.accepted w.went_one).waits ∙ sym (w.two.delivers.accepted w.went_two).waits) (rest Resume refl) (rest Reason refl) (rest Previous refl) (rest Restore refl) (rest OnTick refl) (rest Running refl);
         address = unmoved w x l refl refl;
       }
     where
@@ -200,7 +200,7 @@ module _ {g : Config} {ms : List Moment} {k : ℕ} {c : Core} {o d : ℕ} {s t :
       go : (f : Field) → SameField c.running s.core t.core f
       go f =
           elim (ℕ_discrete o (offset_of f)) [
-            | yes a ↦ w.one.stores o d refl w.went-one f a ∙ sym (w.two.stores o d refl w.went-two f a)
+            | yes a ↦ w.one.stores o d refl w.went_one f a ∙ sym (w.two.stores o d refl w.went_two f a)
             | no a ↦ (let z = ne_eqb o (offset_of f) a in unnamed w c.running l f (rw z (both_no (eqb c.running c.running))) (rw z (both_no (eqb c.running c.running))))
           ]
 
@@ -218,7 +218,7 @@ copy_alike {c = c} {s = s} {t = t} w v l =
     record {
       fields = λ f. unnamed w v l f refl refl;
       address = elim (ℕ_discrete c.running v) [
-        | yes a ↦ subst (λ (i : ℕ). (vm_at s.core i).address ≡ (vm_at t.core i).address) a ((w.one.delivers.accepted w.went-one).saved ∙ sym (w.two.delivers.accepted w.went-two).saved)
+        | yes a ↦ subst (λ (i : ℕ). (vm_at s.core i).address ≡ (vm_at t.core i).address) a ((w.one.delivers.accepted w.went_one).saved ∙ sym (w.two.delivers.accepted w.went_two).saved)
         | no a ↦ (let z = ne_eqb c.running v a in unmoved w v l z z)
       ];
     }
@@ -227,11 +227,11 @@ copy_alike {c = c} {s = s} {t = t} w v l =
 
 pub alike : {g : Config} {ms : List Moment} {k : ℕ} {c : Core} (e : Event) {s t : Stepped} → Two g ms k c e s t → (v : ℕ) → v < g.count → begins v (moment_of k c e s) ≡ false → Alike v s.core t.core
 unfolding begins
-alike Start w v l h = false_true (sym (rw w.went-one at h))
+alike Start w v l h = false_true (sym (rw w.went_one at h))
 alike (Tick at) w v l h = tick_alike w v l
 alike (Stop x) w v l h = record { fields = λ f. unnamed w v l f refl refl; address = unmoved w v l refl refl }
 alike (Shutdown x) w v l h = shut_alike w v l
-alike (Restart x) w v l h = (let z : eqb x v ≡ false = rw w.went-one at h in record { fields = λ f. unnamed w v l f z z; address = unmoved w v l z z })
+alike (Restart x) w v l h = (let z : eqb x v ≡ false = rw w.went_one at h in record { fields = λ f. unnamed w v l f z z; address = unmoved w v l z z })
 alike (Extra x) w v l h = record { fields = λ f. unnamed w v l f refl refl; address = unmoved w v l refl refl }
 alike (Call i n at) w v l h = call_alike w v l
 alike (Write o d) w v l h = write_alike w v l

@@ -17,7 +17,7 @@ use Rattle.history.proofs.More.{state_more}
 use Rattle.history.specs.History.{Behaviour, Moment, next, state_after, state_of, went}
 use Rattle.promises.proofs.Meets.All.{ours_rules}
 use Rattle.promises.proofs.Meets.Copying.{ours_copies}
-use Rattle.promises.proofs.Only.Runs.{same-moment}
+use Rattle.promises.proofs.Only.Runs.{same_moment}
 use Rattle.promises.specs.Copying.{Copier, Copies, bytes_after, copying}
 use Rattle.promises.specs.Demands.{Rules}
 use Rattle.window.specs.declared.Pieces.{Pieces}
@@ -42,7 +42,7 @@ pub only_our_bytes : (b : Behaviour) (t : Copier) → Rules b → Copies t b →
 only_our_bytes b t r q g d es e bytes = go (copying (next b g es e)) refl
   where
     same : next b g es e ≡ next step_of g es e
-    same = same-moment b step_of r ours_rules g d es e
+    same = same_moment b step_of r ours_rules g d es e
 
     go : (i : Bool) → copying (next b g es e) ≡ i → t (state_of b g es) e bytes ≡ memory_after (state_of step_of g es) e bytes
     go true h =

@@ -14,7 +14,7 @@ use Rattle.rig_core.specs.Sound.{sound}
 use Rattle.rig_core.specs.State.{fresh_core, vm_at}
 use Rattle.rig_core.specs.declared.Core.{Core}
 use Rattle.rig_core.specs.declared.Stepped.{Stepped}
-use Rattle.core_laws.proofs.Facts.{len-most, queue-padded, sound_is, ticked-not}
+use Rattle.core_laws.proofs.Facts.{len_most, queue_padded, sound_is, ticked_not}
 use Rattle.event.specs.Kinds.{is_tick}
 use Rattle.event.specs.declared.Event.TheVariants.{Call, Copy, Extra, Fault, Restart, Shutdown, Start, Stop, Tick, Write}
 use Rattle.event.specs.declared.Event.{Event}
@@ -66,7 +66,7 @@ pub rules_fit : (b : Behaviour) → Rules b → (g : Config) → Given g → (es
 rules_fit b r g d es e =
     record {
       refused = r.refuses (state_of b g es) e;
-      sound = later (λ g ms k c. sound c ≡ true) b r.stays-sound g d es e;
+      sound = later (λ g ms k c. sound c ≡ true) b r.stays_sound g d es e;
       table = later TableOf b r.table g d es e;
       clocks = later ClocksOf b r.clocks g d es e;
       traced = later TracedOf b r.traced g d es e;
@@ -98,8 +98,8 @@ standing_told v r a b (Copy p w) i h = ap (λ (x : Bool). pick (both x (eqb r v)
 pub record Two (g : Config) (ms : List Moment) (k : ℕ) (c : Core) (e : Event) (s t : Stepped) : Type 0 where
   pub one : Fits g ms k c e s
   pub two : Fits g ms k c e t
-  pub went-one : went (moment_of k c e s) ≡ true
-  pub went-two : went (moment_of k c e t) ≡ true
+  pub went_one : went (moment_of k c e s) ≡ true
+  pub went_two : went (moment_of k c e t) ≡ true
 
 module _ {g : Config} {ms : List Moment} {k : ℕ} {c : Core} {e : Event} {s t : Stepped} (w : Two g ms k c e s t) where
   abbrev m : Moment
@@ -109,37 +109,37 @@ module _ {g : Config} {ms : List Moment} {k : ℕ} {c : Core} {e : Event} {s t :
   n = moment_of k c e t
 
   same_went : went m ≡ went n
-  same_went = w.went-one ∙ sym w.went-two
+  same_went = w.went_one ∙ sym w.went_two
 
-  pub same-ticking : ticking m ≡ ticking n
-  same-ticking = ap (λ (x : Bool). both x (is_tick e)) same_went
+  pub same_ticking : ticking m ≡ ticking n
+  same_ticking = ap (λ (x : Bool). both x (is_tick e)) same_went
 
-  pub same-begins : (v : ℕ) → begins v m ≡ begins v n
+  pub same_begins : (v : ℕ) → begins v m ≡ begins v n
   unfolding begins
-  same-begins v = rw (w.went-one, w.went-two)
+  same_begins v = rw (w.went_one, w.went_two)
 
   same_error : tells_error s.answer ≡ tells_error t.answer
-  same_error = ap (λ (x : Notice). eqb x.kind 3) (w.one.tells.notice w.went-one ∙ sym (w.two.tells.notice w.went-two))
+  same_error = ap (λ (x : Notice). eqb x.kind 3) (w.one.tells.notice w.went_one ∙ sym (w.two.tells.notice w.went_two))
 
   -- the answers tell the same end
   stands_same : (v r i : ℕ) → standing_by v r s.answer e i ≡ standing_by v r t.answer e i
   stands_same v r i = standing_told v r s.answer t.answer e i same_error
 
-  pub same-running : s.core.running ≡ t.core.running
-  same-running = go (is_tick e) refl
+  pub same_running : s.core.running ≡ t.core.running
+  same_running = go (is_tick e) refl
     where
       go : (b : Bool) → is_tick e ≡ b → s.core.running ≡ t.core.running
-      go true z = w.one.runs.tick (rw (w.went-one, z)) ∙ sym (w.two.runs.tick (rw (w.went-two, z)))
+      go true z = w.one.runs.tick (rw (w.went_one, z)) ∙ sym (w.two.runs.tick (rw (w.went_two, z)))
       go false z =
-          w.one.runs.other w.went-one z
+          w.one.runs.other w.went_one z
           ∙ ap (λ (i : ℕ). pick (not (eqb i 1)) 255 c.running) (stands_same c.running c.running 1)
-          ∙ sym (w.two.runs.other w.went-two z)
+          ∙ sym (w.two.runs.other w.went_two z)
 
-  pub told-running : s.answer.running ≡ t.answer.running
-  told-running = w.one.tells.running ∙ same-running ∙ sym w.two.tells.running
+  pub told_running : s.answer.running ≡ t.answer.running
+  told_running = w.one.tells.running ∙ same_running ∙ sym w.two.tells.running
 
-  pub same-result : s.answer.result ≡ t.answer.result
-  same-result = w.one.tells.result w.went-one ∙ sym (w.two.tells.result w.went-two)
+  pub same_result : s.answer.result ≡ t.answer.result
+  same_result = w.one.tells.result w.went_one ∙ sym (w.two.tells.result w.went_two)
 
   -- what the history tells goes on in the same way
   told_same : {A : Type 0} (f : Moment → A → A) (a : A) → f m (told f a ms) ≡ f n (told f a ms) → told f a (ms ++ (m ∷ [])) ≡ told f a (ms ++ (n ∷ []))
@@ -149,7 +149,7 @@ module _ {g : Config} {ms : List Moment} {k : ℕ} {c : Core} {e : Event} {s t :
 
   same_effect : effect g m ≡ effect g n
   unfolding effect
-  same_effect = rw (w.went-one, w.went-two) (go e)
+  same_effect = rw (w.went_one, w.went_two) (go e)
     where
       go : (e : Event) → effect_by g (moment_of k c e s) e ≡ effect_by g (moment_of k c e t) e
       go Start = refl
@@ -158,7 +158,7 @@ module _ {g : Config} {ms : List Moment} {k : ℕ} {c : Core} {e : Event} {s t :
       go (Shutdown v) = refl
       go (Restart v) = refl
       go (Extra v) = refl
-      go (Call i j at) = ap (of_service c.running i j) same-result
+      go (Call i j at) = ap (of_service c.running i j) same_result
       go (Write o v) = refl
       go (Fault i d) = refl
       go (Copy p x) = ap (λ (b : Bool). pick b (Remove c.running) Keep) same_error
@@ -169,7 +169,7 @@ module _ {g : Config} {ms : List Moment} {k : ℕ} {c : Core} {e : Event} {s t :
 
   -- a queue is its entries, with zeros behind them (W5), and its counts
   padded : (u : Stepped) → Fits g ms k c e u → u.core.queue ≡ holding (entries u.core.queue) u.core.queue.counts
-  padded u r = let h = sound_is u.core r.sound in of_entries u.core.queue r.traced.places.items (len-most u.core h) (queue-padded u.core h)
+  padded u r = let h = sound_is u.core r.sound in of_entries u.core.queue r.traced.places.items (len_most u.core h) (queue_padded u.core h)
 
   -- which are those of the entries (W13)
   same_counts : s.core.queue.counts ≡ t.core.queue.counts
@@ -182,53 +182,53 @@ module _ {g : Config} {ms : List Moment} {k : ℕ} {c : Core} {e : Event} {s t :
   same_queue =
       padded s w.one ∙ ap (λ (l : List ℕ). holding l s.core.queue.counts) same_entries ∙ ap (holding (entries t.core.queue)) same_counts ∙ sym (padded t w.two)
 
-  pub same-removed : s.answer.removed ≡ t.answer.removed
-  same-removed = w.one.removing.count ∙ ap (λ (f : Effect). removed_from f (queue_in g ms)) same_effect ∙ sym w.two.removing.count
+  pub same_removed : s.answer.removed ≡ t.answer.removed
+  same_removed = w.one.removing.count ∙ ap (λ (f : Effect). removed_from f (queue_in g ms)) same_effect ∙ sym w.two.removing.count
 
   -- ---- the clock
 
   same_count : ticks_after m ≡ ticks_after n
-  same_count = ap (λ (x : Bool). pick x (k + 1) k) same-ticking
+  same_count = ap (λ (x : Bool). pick x (k + 1) k) same_ticking
 
   same_started : s.core.clock.started ≡ t.core.clock.started
   unfolding started_after
-  same_started = w.one.traced.started ∙ told_same started_after 0 (rw (w.went-one, w.went-two)) ∙ sym w.two.traced.started
+  same_started = w.one.traced.started ∙ told_same started_after 0 (rw (w.went_one, w.went_two)) ∙ sym w.two.traced.started
 
   clock_by : (i : ℕ) → ticks_after m ≡ i → ticks_after n ≡ i → Stands g i s.core.clock → Stands g i t.core.clock → s.core.clock ≡ t.core.clock
   clock_by zero a b h j =
       let u = w.one.table.unentered a in
       let v = w.two.table.unentered b in
       clock_same s.core.clock t.core.clock same_started
-      (ticked-not s.core (sound_is s.core w.one.sound) h ∙ sym (ticked-not t.core (sound_is t.core w.two.sound) j))
+      (ticked_not s.core (sound_is s.core w.one.sound) h ∙ sym (ticked_not t.core (sound_is t.core w.two.sound) j))
       (u.0 ∙ sym v.0) (u.1 ∙ sym v.1)
   clock_by (suc i) a b h j =
       clock_same s.core.clock t.core.clock same_started
       (eqb-true s.core.clock.ticked 1 h.ticked ∙ sym (eqb-true t.core.clock.ticked 1 j.ticked))
       (slot_one g i s.core.clock t.core.clock h j) (left_one g i s.core.clock t.core.clock h j)
 
-  pub same-clock : s.core.clock ≡ t.core.clock
-  same-clock = clock_by (ticks_after m) refl (sym same_count) w.one.table.stands (subst (λ (i : ℕ). Stands g i t.core.clock) (sym same_count) w.two.table.stands)
+  pub same_clock : s.core.clock ≡ t.core.clock
+  same_clock = clock_by (ticks_after m) refl (sym same_count) w.one.table.stands (subst (λ (i : ℕ). Stands g i t.core.clock) (sym same_count) w.two.table.stands)
 
   -- ---- a VM's standing and counts
 
-  pub same-standing : (v : ℕ) → v < g.count → (vm_at s.core v).standing ≡ (vm_at t.core v).standing
+  pub same_standing : (v : ℕ) → v < g.count → (vm_at s.core v).standing ≡ (vm_at t.core v).standing
   unfolding standing_after
-  same-standing v l = w.one.traced.standing v l ∙ told_same (standing_after v) 0 (rw (w.went-one, w.went-two) (stands_same v c.running _)) ∙ sym (w.two.traced.standing v l)
+  same_standing v l = w.one.traced.standing v l ∙ told_same (standing_after v) 0 (rw (w.went_one, w.went_two) (stands_same v c.running _)) ∙ sym (w.two.traced.standing v l)
 
   same_ran_in : (v : ℕ) → ran_in v m ≡ ran_in v n
-  same_ran_in v = rw (same-ticking, told-running)
+  same_ran_in v = rw (same_ticking, told_running)
 
-  pub age-told : (v : ℕ) → age_in v (ms ++ (m ∷ [])) % 2 ^ 32 ≡ age_in v (ms ++ (n ∷ [])) % 2 ^ 32
-  age-told v = ap (λ (i : ℕ). i % 2 ^ 32) (told_same _ 0 (rw (same-begins v, same-ticking)))
+  pub age_told : (v : ℕ) → age_in v (ms ++ (m ∷ [])) % 2 ^ 32 ≡ age_in v (ms ++ (n ∷ [])) % 2 ^ 32
+  age_told v = ap (λ (i : ℕ). i % 2 ^ 32) (told_same _ 0 (rw (same_begins v, same_ticking)))
 
-  pub ran-told : (v : ℕ) → ran_since v (ms ++ (m ∷ [])) % 2 ^ 32 ≡ ran_since v (ms ++ (n ∷ [])) % 2 ^ 32
-  ran-told v = ap (λ (i : ℕ). i % 2 ^ 32) (told_same _ 0 (rw (same-begins v, same_ran_in v)))
+  pub ran_told : (v : ℕ) → ran_since v (ms ++ (m ∷ [])) % 2 ^ 32 ≡ ran_since v (ms ++ (n ∷ [])) % 2 ^ 32
+  ran_told v = ap (λ (i : ℕ). i % 2 ^ 32) (told_same _ 0 (rw (same_begins v, same_ran_in v)))
 
-  pub same-age : (v : ℕ) → v < g.count → (vm_at s.core v).age ≡ (vm_at t.core v).age
-  same-age v l = w.one.clocks.age v l ∙ age-told v ∙ sym (w.two.clocks.age v l)
+  pub same_age : (v : ℕ) → v < g.count → (vm_at s.core v).age ≡ (vm_at t.core v).age
+  same_age v l = w.one.clocks.age v l ∙ age_told v ∙ sym (w.two.clocks.age v l)
 
-  pub same-ran : (v : ℕ) → v < g.count → (vm_at s.core v).ran ≡ (vm_at t.core v).ran
-  same-ran v l = w.one.clocks.ran v l ∙ ran-told v ∙ sym (w.two.clocks.ran v l)
+  pub same_ran : (v : ℕ) → v < g.count → (vm_at s.core v).ran ≡ (vm_at t.core v).ran
+  same_ran v l = w.one.clocks.ran v l ∙ ran_told v ∙ sym (w.two.clocks.ran v l)
 
 -- ---- a VM's fields and address
 
@@ -243,7 +243,7 @@ pub record Alike (v : ℕ) (c d : Core) : Type 0 where
 module _ {g : Config} {ms : List Moment} {k : ℕ} {c : Core} {e : Event} {s t : Stepped} (w : Two g ms k c e s t) (v : ℕ) (l : v < g.count) where
   -- what the event names in neither
   pub unnamed : (f : Field) → names_by v (moment_of k c e s) e f ≡ false → names_by v (moment_of k c e t) e f ≡ false → SameField v s.core t.core f
-  unnamed f a b = w.one.framed.fields w.went-one v l f a ∙ sym (w.two.framed.fields w.went-two v l f b)
+  unnamed f a b = w.one.framed.fields w.went_one v l f a ∙ sym (w.two.framed.fields w.went_two v l f b)
 
   pub unmoved : moves_by v (moment_of k c e s) e ≡ false → moves_by v (moment_of k c e t) e ≡ false → (vm_at s.core v).address ≡ (vm_at t.core v).address
-  unmoved a b = w.one.framed.address w.went-one v l a ∙ sym (w.two.framed.address w.went-two v l b)
+  unmoved a b = w.one.framed.address w.went_one v l a ∙ sym (w.two.framed.address w.went_two v l b)

@@ -12,7 +12,7 @@ use Rattle.config.specs.declared.Config.{Config}
 use Rattle.rig_core.specs.State.{address_of, vm_at}
 use Rattle.rig_core.specs.declared.Core.{Core}
 use Rattle.rig_core.specs.declared.Stepped.{Stepped}
-use Rattle.core_laws.proofs.Facts.{past-fresh, running-who, sound_is}
+use Rattle.core_laws.proofs.Facts.{past_fresh, running_who, sound_is}
 use Rattle.event.specs.declared.Event.TheVariants.{Call, Copy, Extra, Fault, Restart, Shutdown, Start, Stop, Tick, Write}
 use Rattle.event.specs.declared.Event.{Event}
 use Rattle.guest.specs.Record.{fresh}
@@ -20,7 +20,7 @@ use Rattle.history.specs.History.{Moment, moment_of}
 use Rattle.history.specs.Moments.{begins}
 use Rattle.promises.proofs.Due.{due_either}
 use Rattle.promises.proofs.Only.Alike.{alike, by_service}
-use Rattle.promises.proofs.Only.Fits.{Fits, Two, same-age, same-begins, same-clock, same_queue, same-ran, same-removed, same-result, same-running, same-standing, told-running}
+use Rattle.promises.proofs.Only.Fits.{Fits, Two, same_age, same_begins, same_clock, same_queue, same_ran, same_removed, same_result, same_running, same_standing, told_running}
 use Rattle.promises.proofs.Only.Parts.{answer_same, core_same, status_same, stepped_same, vm_same}
 use Rattle.promises.specs.Delivering.{Delivered, Offer}
 use Rattle.promises.specs.Refusing.{first_of, lines_of}
@@ -33,34 +33,34 @@ number_one g o m n p q = ⊎_elim (λ z. (p.quiet z).0 ∙ sym (q.quiet z).0) (�
 module _ {g : Config} {ms : List Moment} {k : ℕ} {c : Core} where
   tick_number : (at : ℕ) {s t : Stepped} → Two g ms k c (Tick at) s t → s.answer.delivered ≡ t.answer.delivered
   tick_number at {s} {t} w =
-      let a = w.one.delivers.accepted w.went-one in
-      let b = w.two.delivers.accepted w.went-two in
-      let r = told-running w in
+      let a = w.one.delivers.accepted w.went_one in
+      let b = w.two.delivers.accepted w.went_two in
+      let r = told_running w in
       let h = w.one.tells.running in
       ⊎_elim
-      (λ z. a.to-nobody (h ∙ z) ∙ sym (b.to-nobody (sym r ∙ h ∙ z)))
+      (λ z. a.to_nobody (h ∙ z) ∙ sym (b.to_nobody (sym r ∙ h ∙ z)))
       (λ z. (let l : s.core.running < g.count = omega (arith, z, ap (λ (i : Config). i.count) w.one.table.kept) in
-      number_one g _ _ _ (a.to-runner s.core.running l h) (b.to-runner s.core.running l (sym r ∙ h))))
-      (running-who s.core w.one.traced.records (sound_is s.core w.one.sound))
+      number_one g _ _ _ (a.to_runner s.core.running l h) (b.to_runner s.core.running l (sym r ∙ h))))
+      (running_who s.core w.one.traced.records (sound_is s.core w.one.sound))
 
   call_number : (i n at : ℕ) {s t : Stepped} → Two g ms k c (Call i n at) s t → s.answer.delivered ≡ t.answer.delivered
   call_number i n at w =
-      let a = w.one.delivers.accepted w.went-one in
-      let b = w.two.delivers.accepted w.went-two in
+      let a = w.one.delivers.accepted w.went_one in
+      let b = w.two.delivers.accepted w.went_two in
       by_service {s = i} {n = n} (λ z. number_one g _ _ _ (a.sync z) (b.sync z)) (λ z. number_one g _ _ _ (a.return z) (b.return z)) (λ z y. number_one g _ _ _ (a.inject z y) (b.inject z y))
       (λ h. a.never h ∙ sym (b.never h))
 
   same_delivered : (e : Event) {s t : Stepped} → Two g ms k c e s t → s.answer.delivered ≡ t.answer.delivered
-  same_delivered Start w = w.one.delivers.accepted w.went-one ∙ sym (w.two.delivers.accepted w.went-two)
+  same_delivered Start w = w.one.delivers.accepted w.went_one ∙ sym (w.two.delivers.accepted w.went_two)
   same_delivered (Tick at) w = tick_number at w
-  same_delivered (Stop v) w = w.one.delivers.accepted w.went-one ∙ sym (w.two.delivers.accepted w.went-two)
-  same_delivered (Shutdown v) w = (w.one.delivers.accepted w.went-one).never ∙ sym (w.two.delivers.accepted w.went-two).never
-  same_delivered (Restart v) w = w.one.delivers.accepted w.went-one ∙ sym (w.two.delivers.accepted w.went-two)
-  same_delivered (Extra v) w = w.one.delivers.accepted w.went-one ∙ sym (w.two.delivers.accepted w.went-two)
+  same_delivered (Stop v) w = w.one.delivers.accepted w.went_one ∙ sym (w.two.delivers.accepted w.went_two)
+  same_delivered (Shutdown v) w = (w.one.delivers.accepted w.went_one).never ∙ sym (w.two.delivers.accepted w.went_two).never
+  same_delivered (Restart v) w = w.one.delivers.accepted w.went_one ∙ sym (w.two.delivers.accepted w.went_two)
+  same_delivered (Extra v) w = w.one.delivers.accepted w.went_one ∙ sym (w.two.delivers.accepted w.went_two)
   same_delivered (Call i n at) w = call_number i n at w
-  same_delivered (Write o x) w = w.one.delivers.accepted w.went-one ∙ sym (w.two.delivers.accepted w.went-two)
-  same_delivered (Fault i x) w = w.one.delivers.accepted w.went-one ∙ sym (w.two.delivers.accepted w.went-two)
-  same_delivered (Copy p x) w = (w.one.delivers.accepted w.went-one).never ∙ sym (w.two.delivers.accepted w.went-two).never
+  same_delivered (Write o x) w = w.one.delivers.accepted w.went_one ∙ sym (w.two.delivers.accepted w.went_two)
+  same_delivered (Fault i x) w = w.one.delivers.accepted w.went_one ∙ sym (w.two.delivers.accepted w.went_two)
+  same_delivered (Copy p x) w = (w.one.delivers.accepted w.went_one).never ∙ sym (w.two.delivers.accepted w.went_two).never
 
 -- ---- one event
 
@@ -69,14 +69,14 @@ module _ {g : Config} {ms : List Moment} {k : ℕ} {c : Core} (e : Event) {s t :
   same_vm v l = go (begins v (moment_of k c e s)) refl
     where
       go : (b : Bool) → begins v (moment_of k c e s) ≡ b → vm_at s.core v ≡ vm_at t.core v
-      go true h = w.one.starts v l h ∙ sym (w.two.starts v l (sym (same-begins w v) ∙ h))
+      go true h = w.one.starts v l h ∙ sym (w.two.starts v l (sym (same_begins w v) ∙ h))
       go false h =
           let a = alike e w v l h in
-          vm_same (vm_at s.core v) (vm_at t.core v) (same-standing w v l) a.address (status_same (vm_at s.core v).status (vm_at t.core v).status a.fields) (same-age w v l) (same-ran w v l)
+          vm_same (vm_at s.core v) (vm_at t.core v) (same_standing w v l) a.address (status_same (vm_at s.core v).status (vm_at t.core v).status a.fields) (same_age w v l) (same_ran w v l)
 
   -- records past the VM count are fresh (W2)
   past : (u : Stepped) → Fits g ms k c e u → (v : ℕ) → g.count ≤ v → vm_at u.core v ≡ fresh
-  past u r v h = past-fresh u.core r.traced.records (sound_is u.core r.sound) v (omega (arith, h, ap (λ (i : Config). i.count) r.table.kept))
+  past u r v h = past_fresh u.core r.traced.records (sound_is u.core r.sound) v (omega (arith, h, ap (λ (i : Config). i.count) r.table.kept))
 
   same_vms : s.core.vms ≡ t.core.vms
   same_vms =
@@ -87,18 +87,18 @@ module _ {g : Config} {ms : List Moment} {k : ℕ} {c : Core} (e : Event) {s t :
       ])
 
   same_core : s.core ≡ t.core
-  same_core = core_same s.core t.core (w.one.table.kept ∙ sym w.two.table.kept) (same-clock w) (same-running w) (same_queue w) same_vms
+  same_core = core_same s.core t.core (w.one.table.kept ∙ sym w.two.table.kept) (same_clock w) (same_running w) (same_queue w) same_vms
 
   accepted_one : s ≡ t
   accepted_one =
       stepped_same s t same_core
-      (answer_same s.answer t.answer (w.one.refused.number ∙ sym w.two.refused.number) (told-running w) (w.one.tells.address ∙ ap address_of same_core ∙ sym w.two.tells.address)
-      (same_delivered e w) (w.one.tells.notice w.went-one ∙ sym (w.two.tells.notice w.went-two)) (same-result w) (same-removed w))
+      (answer_same s.answer t.answer (w.one.refused.number ∙ sym w.two.refused.number) (told_running w) (w.one.tells.address ∙ ap address_of same_core ∙ sym w.two.tells.address)
+      (same_delivered e w) (w.one.tells.notice w.went_one ∙ sym (w.two.tells.notice w.went_two)) (same_result w) (same_removed w))
 
 -- no second outcome fits
 pub outcome_one : {g : Config} {ms : List Moment} {k : ℕ} {c : Core} (e : Event) {s t : Stepped} → Fits g ms k c e s → Fits g ms k c e t → s ≡ t
 outcome_one {c = c} e {s} {t} p q =
     elim (ℕ_discrete (first_of (lines_of c e)) 0) [
-      | yes z ↦ accepted_one e (record { one = p; two = q; went-one = eq-eqb s.answer.refusal 0 (p.refused.number ∙ z); went-two = eq-eqb t.answer.refusal 0 (q.refused.number ∙ z) })
+      | yes z ↦ accepted_one e (record { one = p; two = q; went_one = eq-eqb s.answer.refusal 0 (p.refused.number ∙ z); went_two = eq-eqb t.answer.refusal 0 (q.refused.number ∙ z) })
       | no z ↦ stepped_same s t (p.refused.untouched z ∙ sym (q.refused.untouched z)) (p.refused.answered z ∙ sym (q.refused.answered z))
     ]

@@ -15,7 +15,7 @@ use Rattle.guest.specs.declared.Status.{Status}
 use Rattle.guest.specs.declared.Vm.{Vm}
 use Rattle.promises.specs.Framing.{Enabled, Field, Left, OnTick, Pending, Previous, Reason, Restore, Resume, Running, Since, value_of}
 use Rattle.queue.specs.declared.Queue.{Queue}
-use Rattle.table.proofs.Place.{to-grows, to-more}
+use Rattle.table.proofs.Place.{to_grows, to_more}
 use Rattle.table.specs.Place.{Placed, table_to}
 use Rattle.table.specs.declared.Clock.{Clock}
 
@@ -76,7 +76,7 @@ module _ (g : Config) (k : ℕ) where
   -- of two slots the later one stands at a later tick
   not_later : (h j : Clock) → Placed g k h → Placed g k j → h.slot < j.slot → ⊥
   not_later h j p q l =
-      omega (arith, same_tick h j p q, to-grows g j.slot (suc h.slot) (omega arith), to-more g h.slot, p.left.0, p.left.1, q.left.0, q.left.1)
+      omega (arith, same_tick h j p q, to_grows g j.slot (suc h.slot) (omega arith), to_more g h.slot, p.left.0, p.left.1, q.left.0, q.left.1)
 
   pub slot_one : (h j : Clock) → Placed g k h → Placed g k j → h.slot ≡ j.slot
   slot_one h j p q =

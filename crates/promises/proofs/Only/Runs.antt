@@ -58,26 +58,26 @@ module _ (a b : Behaviour) (p : Rules a) (q : Rules b) (g : Config) (d : Given g
   same_after [] es h = subst (λ (l : List Event). SameRun a b g l) (sym (append-nil es)) h
   same_after (e ∷ fs) es h = subst (λ (l : List Event). SameRun a b g l) (append_assoc es (e ∷ []) fs) (same_after fs (es ++ (e ∷ [])) (same_more es h e))
 
-  pub same-run : (es : List Event) → SameRun a b g es
+  pub same_run : (es : List Event) → SameRun a b g es
   unfolding state_after count_after moments
-  same-run es = same_after es [] (record { state = refl; ticks = refl; moments = refl })
+  same_run es = same_after es [] (record { state = refl; ticks = refl; moments = refl })
 
   -- so whatever is promised of stretches is kept by both or by neither
-  pub same-stretch : (fs es : List Event) → stretch a g es fs ≡ stretch b g es fs
+  pub same_stretch : (fs es : List Event) → stretch a g es fs ≡ stretch b g es fs
   unfolding moments
-  same-stretch [] es = refl
-  same-stretch (e ∷ fs) es = stretch_cons a g es fs e ∙ conses (same_next es (same-run es) e) (same-stretch fs (es ++ (e ∷ []))) ∙ sym (stretch_cons b g es fs e)
+  same_stretch [] es = refl
+  same_stretch (e ∷ fs) es = stretch_cons a g es fs e ∙ conses (same_next es (same_run es) e) (same_stretch fs (es ++ (e ∷ []))) ∙ sym (stretch_cons b g es fs e)
     where
       conses : {m n : Moment} {l k : List Moment} → m ≡ n → l ≡ k → m ∷ l ≡ n ∷ k
       conses x y = rw (x, y)
 
-  pub same-following : (es : List Event) (e : Event) (fs : List Event) → after a (next a g es e) fs ≡ after b (next b g es e) fs
-  same-following es e fs = at_next a ∙ same-stretch fs (es ++ (e ∷ [])) ∙ sym (at_next b)
+  pub same_following : (es : List Event) (e : Event) (fs : List Event) → after a (next a g es e) fs ≡ after b (next b g es e) fs
+  same_following es e fs = at_next a ∙ same_stretch fs (es ++ (e ∷ [])) ∙ sym (at_next b)
     where
       at_next : (x : Behaviour) → after x (next x g es e) fs ≡ stretch x g (es ++ (e ∷ [])) fs
       at_next x =
           sym (ap (λ (i : ℕ). moments x i (state_of x g (es ++ (e ∷ []))) fs) (count_more x es 0 (fresh_core g) e)
           ∙ ap (λ (c : Core). moments x (ticks_after (next x g es e)) c fs) (state_more x es (fresh_core g) e))
 
-  pub same-moment : (es : List Event) (e : Event) → next a g es e ≡ next b g es e
-  same-moment es e = same_next es (same-run es) e
+  pub same_moment : (es : List Event) (e : Event) → next a g es e ≡ next b g es e
+  same_moment es e = same_next es (same_run es) e

@@ -4,13 +4,13 @@ use lib.ListN.{length}
 use mathlib.Core.Path.{◌≡◌}
 use native.Mathlib.Omega.{arith}
 use Rattle.basis.proofs.Laws.{length_mapped}
-use Rattle.copies.proofs.Failing.{extent_clean, first_more, first-none}
+use Rattle.copies.proofs.Failing.{extent_clean, first_more, first_none}
 use Rattle.copies.specs.Failing.{extent_failure, may}
 use Rattle.regions.specs.Rules.{listed}
 use Rattle.copies.proofs.checking.first_failure.Goals as goal
 
 pub loop-k-init : goal.loop-k-init
-loop-k-init c = let a = c.args in (omega arith, first-none _ (extent_clean _ _) _ a.xs c.told-f.ensures)
+loop-k-init c = let a = c.args in (omega arith, first_none _ (extent_clean _ _) _ a.xs c.told-f.ensures)
 
 pub loop-k-preserved : goal.loop-k-preserved
 loop-k-preserved c = let l = c.loop-k in

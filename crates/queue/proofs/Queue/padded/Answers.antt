@@ -1,6 +1,6 @@
 -- The loop has joined the places below `k` that are past the entries.
 use Rattle.std.proofs.Common.{arith}
-use Rattle.basis.proofs.Laws.{every-end}
+use Rattle.basis.proofs.Laws.{every_end}
 use Rattle.queue.proofs.Turns.{past_more, past_none}
 use Rattle.queue.specs.Entries.{padded_of}
 use Rattle.queue.proofs.Queue.padded.Goals as goal
@@ -13,4 +13,4 @@ loop-k-preserved c = (omega arith, omega arith, past_more _ c.args.self.items _ 
 
 pub returns : goal.returns
 unfolding padded_of
-returns c = every-end _ _ _ _ c.loop-k.invariant.2 (omega arith)
+returns c = every_end _ _ _ _ c.loop-k.invariant.2 (omega arith)

@@ -1,6 +1,6 @@
 -- The regions below `k` are tested.
 use native.Mathlib.Omega.{arith}
-use Rattle.basis.proofs.Laws.{every-end, every_more, turns}
+use Rattle.basis.proofs.Laws.{every_end, every_more, turns}
 use Rattle.regions.specs.Beside.{agrees_all}
 use Rattle.regions.proofs.overlap.agrees_each.Goals as goal
 
@@ -12,4 +12,4 @@ loop-k-preserved c = (omega arith, every_more _ _ _ _ c.loop-k.invariant.1 (rw c
 
 pub returns : goal.returns
 unfolding agrees_all
-returns c = every-end _ _ _ _ c.loop-k.invariant.1 (omega arith)
+returns c = every_end _ _ _ _ c.loop-k.invariant.1 (omega arith)

@@ -1,12 +1,12 @@
 -- The regions up to `k` are in order.
 use mathlib.Core.Path.{refl}
 use native.Mathlib.Omega.{arith}
-use Rattle.basis.proofs.Laws.{every-end, every-none, fault_more}
+use Rattle.basis.proofs.Laws.{every_end, every_none, fault_more}
 use Rattle.basis.specs.Count.{every}
 use Rattle.regions.proofs.overlap.in_order.Goals as goal
 
 pub returns-then-count-lt1 : goal.returns-then-count-lt1
-returns-then-count-lt1 c = every-end _ 0 _ _ (every-none _ _ refl) (omega arith)
+returns-then-count-lt1 c = every_end _ 0 _ _ (every_none _ _ refl) (omega arith)
 
 pub loop-k-init : goal.loop-k-init
 unfolding every

@@ -1,6 +1,6 @@
 -- The VMs below `v` hold few regions each.
 use native.Mathlib.Omega.{arith}
-use Rattle.basis.proofs.Laws.{every-end, every_more, turns}
+use Rattle.basis.proofs.Laws.{every_end, every_more, turns}
 use Rattle.regions.proofs.Steps.{few_short}
 use Rattle.regions.specs.Rules.{few_each}
 use Rattle.regions.proofs.rules.few_each.Goals as goal
@@ -16,4 +16,4 @@ loop-v-preserved c = (omega arith, every_more _ _ _ _ c.loop-v.invariant.1 (rw c
 
 pub returns : goal.returns
 unfolding few_each
-returns c = every-end _ _ _ _ c.loop-v.invariant.1 (omega arith)
+returns c = every_end _ _ _ _ c.loop-v.invariant.1 (omega arith)
