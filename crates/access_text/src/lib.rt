@@ -1,5 +1,6 @@
 // The answers to access queries as text (N22 to N25).
 #![tactic(auto)]
+
 ghost use Rattle.std.specs.Prelude.{◌+◌, ◌/◌, ◌≤◌, length, ◌≡◌};
 ghost use Rattle.access_text.specs.Queries.{answer_at, answers_text, rest_text, shown_in, word_for};
 ghost use Rattle.config.specs.Sizes.{legal};
