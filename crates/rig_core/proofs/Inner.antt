@@ -1,13 +1,11 @@
 -- From the parts of an event to the whole: refused by its row, or done.
 use Prim.Native.Nat.{ℕ, ◌%◌}
-use denote.Enum.Declared.{tag_of}
-use types.Run.{OneOf, miss}
 use borrow.Author.Tests.{eq-eqb, eqb-false, eqb-true, ltb-false, ltb-true, ne_eqb}
 use lib.Dec.{eqb, leb, ltb}
 use lib.ListN.{get_or-eq_default, get_or, length, length-set, set}
 use lib.Seq.{set-get_or, set_out}
 use mathlib.Core.Bool.{Bool, false, not, true}
-use mathlib.Core.List.{List, [], ◌∷◌}
+use mathlib.Core.List.{List}
 use mathlib.Core.Path.{ap, refl, sym, ◌∙◌, ◌≡◌}
 use native.Mathlib.Nat.{mod-eq_of_lt}
 use native.Mathlib.Omega.{arith}
@@ -29,7 +27,6 @@ use Rattle.rig_core.specs.State.{full, ready_at, vm_at}
 use Rattle.rig_core.specs.declared.After.{After}
 use Rattle.rig_core.specs.declared.Core.{Core}
 use Rattle.rig_core.specs.declared.Stepped.{Stepped}
-use Rattle.event.specs.contracts.Event as E
 use Rattle.event.specs.Kinds.{is_copy, is_extra, is_start, is_tick, of_master, of_running, subject, wants_ready}
 use Rattle.event.specs.declared.Event.TheVariants.{Call, Copy, Extra, Fault, Restart, Shutdown, Start, Stop, Tick, Write}
 use Rattle.event.specs.declared.Event.{Event}
@@ -281,17 +278,17 @@ unfolding change_in inner_of
 change_is c e t s k = rw (plain c e t s k)
 
 -- the arm of all events but Start, Tick and Copy
-pub other_arm : (c : Core) (e : Event) → OneOf (2 ∷ 3 ∷ 4 ∷ 5 ∷ 6 ∷ 7 ∷ 8 ∷ []) (tag_of E.the_type e) → change_in c e ≡ inner_of c e
-other_arm c Start k = absurd (miss (2 ∷ 3 ∷ 4 ∷ 5 ∷ 6 ∷ 7 ∷ 8 ∷ []) 0 tt k)
-other_arm c (Tick a) k = absurd (miss (2 ∷ 3 ∷ 4 ∷ 5 ∷ 6 ∷ 7 ∷ 8 ∷ []) 1 tt k)
-other_arm c (Stop v) k = change_is c (Stop v) refl refl refl
-other_arm c (Shutdown v) k = change_is c (Shutdown v) refl refl refl
-other_arm c (Restart v) k = change_is c (Restart v) refl refl refl
-other_arm c (Extra v) k = change_is c (Extra v) refl refl refl
-other_arm c (Call x y z) k = change_is c (Call x y z) refl refl refl
-other_arm c (Write x y) k = change_is c (Write x y) refl refl refl
-other_arm c (Fault x y) k = change_is c (Fault x y) refl refl refl
-other_arm c (Copy p w) k = absurd (miss (2 ∷ 3 ∷ 4 ∷ 5 ∷ 6 ∷ 7 ∷ 8 ∷ []) 9 tt k)
+pub other_arm : (c : Core) (e : Event) → (e ≡ Start → ⊥) → ((at : ℕ) → e ≡ Tick at → ⊥) → ((p : Pieces) (w : Window) → e ≡ Copy p w → ⊥) → change_in c e ≡ inner_of c e
+other_arm c Start s t k = absurd (s refl)
+other_arm c (Tick a) s t k = absurd (t a refl)
+other_arm c (Stop v) s t k = change_is c (Stop v) refl refl refl
+other_arm c (Shutdown v) s t k = change_is c (Shutdown v) refl refl refl
+other_arm c (Restart v) s t k = change_is c (Restart v) refl refl refl
+other_arm c (Extra v) s t k = change_is c (Extra v) refl refl refl
+other_arm c (Call x y z) s t k = change_is c (Call x y z) refl refl refl
+other_arm c (Write x y) s t k = change_is c (Write x y) refl refl refl
+other_arm c (Fault x y) s t k = change_is c (Fault x y) refl refl refl
+other_arm c (Copy p w) s t k = absurd (k p w refl)
 
 -- ---- a Copy
 

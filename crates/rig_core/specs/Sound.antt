@@ -8,7 +8,7 @@ use Rattle.config.specs.Sizes.{Legal, duration_at, is_spare, legal}
 use Rattle.rig_core.specs.State.{idle, owner_now, ready_at, vm_at}
 use Rattle.rig_core.specs.declared.Core.{Core}
 use Rattle.guest.specs.Record.{fresh, last_standing, standing_known}
-use Rattle.queue.specs.Entries.{Counted, counted_of, entries, padded_of, rest}
+use Rattle.queue.specs.Entries.{Counted, counted_of, entries, padded_of}
 use Rattle.table.specs.Position.{has_ticked, is_started}
 use Rattle.vms.specs.Records.{rest_fresh}
 

@@ -1,5 +1,6 @@
 // The core: its state, whether it is sound, and every event as a method that takes the state by value.
 #![tactic(auto)]
+
 mod inner_events;
 mod public_events;
 

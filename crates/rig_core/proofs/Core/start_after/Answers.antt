@@ -1,0 +1,13 @@
+-- Refused by its row, else done.
+use Rattle.rig_core.proofs.Inner.{after_done, after_row}
+use Rattle.rig_core.specs.Refusals.{row_of}
+use Rattle.event.specs.declared.Event.TheVariants.{Start}
+use Rattle.rig_core.proofs.Core.start_after.Goals as goal
+
+pub returns-then-n-eq0 : goal.returns-then-n-eq0
+unfolding row_of
+returns-then-n-eq0 c = after_done _ Start _ _ c.of_start-n.ensures c.if-n-eq0.true c.start_done.ensures
+
+pub returns-else-n-eq0 : goal.returns-else-n-eq0
+unfolding row_of
+returns-else-n-eq0 c = after_row _ Start _ _ c.of_start-n.ensures c.if-n-eq0.false c.kept.ensures
