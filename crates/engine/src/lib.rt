@@ -1,5 +1,6 @@
 // The core's events where the state stands: the VM records in a bank that the caller lends, the rest by value.
 #![tactic(auto)]
+
 ghost use Rattle.std.specs.Prelude.{ℕ, length, true, List, ◌≡◌};
 ghost use Rattle.config.specs.Ranges.{Sized};
 ghost use Rattle.engine.specs.Engine.{Does, Moves, Settles, about_vm, config_of, core_of, counts_of, refused_at, stand_of};
