@@ -1,5 +1,6 @@
 // The live core (T9, K6): one core that is lent and changed where it stands, and what a host in C or Rust calls.
 #![tactic(auto)]
+
 ghost use Rattle.std.specs.Prelude.{◌≡◌};
 ghost use Rattle.basis.specs.Nobody.{nobody};
 ghost use Rattle.change.specs.Answers.{quietly};
@@ -84,7 +85,8 @@ pub fn core_inner(c: &mut Core, e: Input) -> Answer
     ensures { (c.new ≡ (inner_by c.old e).core) × (result ≡ (inner_by c.old e).answer) }
 {
     let s = inner_after(*c, e);
-    c.vms = s.vms;
+    let vms = s.vms;
+    c.vms = vms;
     c.clock = s.clock;
     c.running = s.running;
     c.queue = s.queue;
