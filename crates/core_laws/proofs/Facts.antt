@@ -22,7 +22,7 @@ use Rattle.guest.specs.Record.{fresh, last_standing}
 use Rattle.queue.proofs.Counted.{counted_is, counted_of_lem, entries_few, entries_none}
 use Rattle.queue.proofs.Lists.{take_at_in}
 use Rattle.queue.proofs.Meaning.{all_map, all_of, entries_length, of_entries}
-use Rattle.queue.specs.Entries.{All, entries, entries_of, holding, padded_of, rest}
+use Rattle.queue.specs.Entries.{All, entries, entries_of, holding, padded_of}
 use Rattle.table.specs.Position.{has_ticked, is_started}
 use Rattle.vms.specs.Records.{rest_fresh}
 

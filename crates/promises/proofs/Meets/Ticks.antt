@@ -19,7 +19,6 @@ use Rattle.guest.proofs.Facts.{enter_age, enter_left, enter_ran, enter_running, 
 use Rattle.guest.specs.Deliver.{enter, quiet}
 use Rattle.guest.specs.Record.{fresh}
 use Rattle.guest.specs.declared.Vm.{Vm}
-use Rattle.vms.proofs.Laws.{eight}
 use Rattle.vms.proofs.Records.{passed_age, passed_length, passed_ran}
 use Rattle.vms.specs.Tick.{entering, number_of, passed, turn, turn_by}
 
