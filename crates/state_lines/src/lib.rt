@@ -1,6 +1,7 @@
 // The whole state as lines, behind that of the event that left it.
 // The functions ask for room in the buffer and for the table of pairs, as those of `lines` do.
 #![tactic(auto)]
+
 ghost use Rattle.std.specs.Prelude.{min, ◌*◌, ◌+◌, ◌≤◌, length, [], ◌≡◌};
 ghost use Rattle.bank.specs.Bank.{vms_of};
 ghost use Rattle.basis.specs.Choice.{pick};
