@@ -1,5 +1,6 @@
 // The figures of a tick report: those of a row of logs, counted from the answers alone (N13 to N17, N19, N20).
 #![tactic(auto)]
+
 mod count;
 
 ghost use Rattle.std.specs.Prelude.{◌≡◌};
