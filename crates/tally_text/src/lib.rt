@@ -1,5 +1,6 @@
 // The text of a tick report: its lines put into a lent buffer, and the names of the logs (N13, N18, N21).
 #![tactic(auto)]
+
 mod line;
 
 ghost use Rattle.std.specs.Prelude.{◌≤◌, length, ◌≡◌};
