@@ -4,14 +4,14 @@ use borrow.Author.Tests.{le-ltb, lt-ltb, ltb-false, ltb-true}
 use lib.Dec.{ltb}
 use lib.ListN.{get_or-eq_default, get_or, length, length-set, set}
 use lib.Seq.{get_or-set_other, get_or-set_same, set-get_or, set_out}
-use mathlib.Core.Bool.{Bool, false, true}
+use mathlib.Core.Bool.{Bool, false, not, true}
 use mathlib.Core.List.{List, [], ◌∷◌}
 use mathlib.Core.Logic.{◌≢◌}
 use mathlib.Core.Path.{ap, refl, sym, ◌∙◌, ◌≡◌}
 use native.Mathlib.Decide.{dec_lt, ℕ_discrete}
 use native.Mathlib.Nat.{add-suc, add-zero, mod-eq_of_lt}
 use native.Mathlib.Omega.{arith}
-use Rattle.basis.proofs.Laws.{up_to_more}
+use Rattle.basis.proofs.Laws.{false_true, up_to_more}
 use Rattle.basis.specs.Choice.{pick}
 use Rattle.basis.specs.Count.{up_to}
 use Rattle.basis.specs.Nobody.{nobody}
@@ -172,3 +172,12 @@ turn_law l w handlers running at count owner head left who k address number s b 
     let wl : length w ≡ 8 = ap length p ∙ each_length (λ k v. older v) (set l (running % 8) s) count ∙ long in
     let q : who ≡ runner_of owner head w = runner_law w owner head who b wl hb hwho in
     entered_law w handlers who left address number d wl hd ha hn ∙ ap (λ (x : ℕ). turn_by x left handlers w) q ∙ ap (λ (x : List Vm). turn_by (runner_of owner head x) left handlers x) pp
+
+-- a test of the code that was turned round
+pub test_failed : (b p : Bool) → b ≡ p → not b ≡ true → p ≡ false
+test_failed true p e f = false_true f
+test_failed false p e f = sym e
+
+pub test_passed : (b p : Bool) → b ≡ p → not b ≡ false → p ≡ true
+test_passed true p e f = sym e
+test_passed false p e f = false_true (sym f)
