@@ -1,5 +1,6 @@
 // The window of a run as text (N26 to N28).
 #![tactic(auto)]
+
 mod rows;
 mod run;
 
