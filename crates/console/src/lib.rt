@@ -1,5 +1,6 @@
 // Files, and runs printed to standard output.
 #![tactic(auto)]
+
 ghost use Rattle.io.specs.Counts.{IsPrefixLen};
 ghost use Rattle.std.specs.Prelude.{IfSome};
 
