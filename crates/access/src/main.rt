@@ -1,6 +1,7 @@
 // Prints the answers to the access queries of queries.bin on config.bin: `yes` or `no` for each (N22 to N25).
 // Rules that its run in the gate tries: H8 to H10, N22, N23, N24.
 #![tactic(auto)]
+
 fn main(rt: HostRuntime) {
     let mut image = io::buffer();
     let mut queries = io::large_buffer();

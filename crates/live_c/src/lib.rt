@@ -1,5 +1,6 @@
 // What a host in C or Rust links: the functions of `live`, exported under their names, each with the contract that it has there.
 #![tactic(auto)]
+
 ghost use Rattle.std.specs.Prelude.{◌≡◌};
 ghost use Rattle.config.specs.Sizes.{access};
 ghost use Rattle.live.specs.Host.{begun_from, inner_by, step_by};

@@ -3,6 +3,7 @@
 // accepted, and a dot. Input that ends within a case is told by the line `torn`.
 // Rules that its run in the gate tries: N5, N7, N10, N11, and C7, since what it has to print was written by the twin.
 #![tactic(auto)]
+
 ghost use Rattle.std.specs.Prelude.{◌*◌, ◌+◌, ◌<◌, ◌≡◌};
 
 fn main() {

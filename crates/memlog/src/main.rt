@@ -2,6 +2,7 @@
 // Rules that its run in the gate tries: E13, L6, D31, D32, D34 to D36, N26, N27.
 // At most 65,536 bytes of memory.bin are read, which is more than decides: 16,384.
 #![tactic(auto)]
+
 fn main(rt: HostRuntime) {
     let mut image = io::buffer();
     let mut log = io::large_buffer();

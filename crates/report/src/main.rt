@@ -1,6 +1,7 @@
 // Prints the tick report of config.bin and of log00.bin to log15.bin: the figures of each VM, summed over the logs (N13 to N21).
 // Rules that its run in the gate tries: X3, N18.
 #![tactic(auto)]
+
 ghost use Rattle.tally.specs.Counting.{OfLogs};
 
 use tally::Tally;
