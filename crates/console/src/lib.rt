@@ -2,7 +2,7 @@
 #![tactic(auto)]
 
 ghost use Rattle.io.specs.Counts.{IsPrefixLen};
-ghost use Rattle.std.specs.Prelude.{IfSome};
+ghost use Rattle.std.specs.Prelude.{◌≡◌, IfNone, IfSome};
 
 use std::fs::File;
 use std::os::fd::AsRawFd;
@@ -17,9 +17,10 @@ pub fn read_file(rt: &HostRuntime, path: &[u8], buf: &mut [u8]) -> usize
     }
 }
 
-// The same, and None of one that does not open: whether it is there is told apart (N13). A path that is no text names no file.
+// The same, and None of one that does not open, with the buffer as it was: whether it is there is told apart (N13). A path that is no text names no file.
 pub fn read_opened(rt: &HostRuntime, path: &[u8], buf: &mut [u8]) -> Option<usize>
-    ensures { IfSome result (λ n. IsPrefixLen n buf.new) }
+    ensures front { IfSome result (λ n. IsPrefixLen n buf.new) }
+    ensures kept { IfNone result (buf.new ≡ buf.old) }
 {
     match str::from_utf8(path) {
         Ok(name) => read_named(rt, name, buf),
@@ -28,7 +29,8 @@ pub fn read_opened(rt: &HostRuntime, path: &[u8], buf: &mut [u8]) -> Option<usiz
 }
 
 fn read_named(rt: &HostRuntime, name: &str, buf: &mut [u8]) -> Option<usize>
-    ensures { IfSome result (λ n. IsPrefixLen n buf.new) }
+    ensures front { IfSome result (λ n. IsPrefixLen n buf.new) }
+    ensures kept { IfNone result (buf.new ≡ buf.old) }
 {
     match File::open(rt, name) {
         Ok(file) => Some(io::read_full(file.as_raw_fd(), buf)),
