@@ -16,11 +16,15 @@ use Rattle.config.proofs.Query.{access_known}
 use Rattle.config.specs.Sizes.{access, legal}
 use Rattle.config.specs.declared.Config.{Config}
 use Rattle.image_reader.specs.Reader.{read_image}
-use Rattle.image_reader.specs.declared.Reading.{Reading}
+use Rattle.image_reader.specs.Reading.{Reading}
+use Rattle.lines.proofs.Texts.{adds_none}
 use Rattle.lines.specs.Text.{cut_text, refused_text}
 use Rattle.lines.specs.Words.{long_line}
 use Rattle.grants.specs.Access.{allowed}
+use Rattle.text.proofs.Adds.{adds_most}
+use Rattle.text.specs.Adds.{Adds}
 use Rattle.text.specs.Puts.{Puts}
+use Rattle.text.specs.declared.page.Page.{Page}
 
 -- H10: what is asked first
 module _ (g : Config) (v address size way : ℕ) (t k m b : Bool) (ht : t ≡ legal g) (hk : k ≡ within 1 3 way) (hm : m ≡ both (ltb v g.count) k) (hb : b ≡ both t m) where
@@ -42,13 +46,13 @@ module _ (g : Config) (v address size way : ℕ) (t k m b : Bool) (ht : t ≡ le
       go false y z e = refl
 
 -- N24: no bytes behind the last whole record, or some
-pub rest_none : (b : List ℕ) (at size : ℕ) → size % 10 ≡ 0 → Puts (rest_text size) b at b at
-unfolding rest_text put_all
-rest_none b at size e = rw (eq-eqb (size % 10) 0 e) (record { bytes = refl; next = omega arith })
-
-pub rest_cut : {b m : List ℕ} {at j : ℕ} (size : ℕ) → (size % 10 ≡ 0 → ⊥) → Puts (cut_text (size / 10 + 1)) b at m j → Puts (rest_text size) b at m j
+pub rest_none : (p : Page) (size : ℕ) → size % 10 ≡ 0 → Adds (rest_text size) 64 p p
 unfolding rest_text
-rest_cut size h p = rw (ne_eqb (size % 10) 0 h) p
+rest_none p size e = rw (eq-eqb (size % 10) 0 e) (adds_none 64 p)
+
+pub rest_cut : {p q : Page} (size : ℕ) → (size % 10 ≡ 0 → ⊥) → Adds (cut_text (size / 10 + 1)) 15 p q → Adds (rest_text size) 64 p q
+unfolding rest_text
+rest_cut size h a = rw (ne_eqb (size % 10) 0 h) (adds_most a (omega arith))
 
 -- a buffer that is too short stays
 pub shown_none : {b : List ℕ} (image queries : List ℕ) → length b < enough → Puts (shown_in (length b) image queries) b 0 b 0

@@ -1,12 +1,14 @@
 -- Laws of bytes put into a buffer, and of records put one behind the other.
-use Prim.Native.Nat.{suc, zero, ℕ, ◌*◌, ◌+◌, ◌≤◌}
-use lib.ListN.{drop, length, length-append, set}
+use Prim.Native.Nat.{suc, zero, ℕ, ◌*◌, ◌+◌, ◌-◌, ◌≤◌}
+use borrow.Rule.Slice.PartMut.{Post-is, put_mid}
+use lib.ListN.{drop, length, length-append, set, take}
 use lib.Seq.{length-sets, set_out, sets, sets-eq}
 use mathlib.Core.List.{List, [], ◌++◌, ◌∷◌}
 use mathlib.Core.Path.{ap, refl, sym, ◌∙◌, ◌≡◌}
 use native.Mathlib.Nat.{suc-mul, zero-mul}
 use native.Mathlib.Numerals.{add-one}
 use native.Mathlib.Omega.{arith}
+use Rattle.std.proofs.Common.{append_assoc}
 use Rattle.basis.specs.Buffer.{put_all}
 use Rattle.basis.specs.Count.{joined}
 
@@ -27,6 +29,12 @@ pub put_all_front : (l vs : List ℕ) → length vs ≤ length l → put_all l 0
 put_all_front l vs h =
     let e : 0 + length vs ≡ length vs = omega arith in
     put_all_is l 0 vs ∙ sets-eq vs l 0 (omega arith) ∙ ap (λ (k : ℕ). vs ++ drop k l) e
+
+-- what is copied over a part of the buffer is put there
+pub put_all_part : (l vs ys : List ℕ) (a e : ℕ) → e ≡ a + length vs → e ≤ length l → ys ≡ vs → put_mid a (e - a) l ys ≡ put_all l a vs
+put_all_part l vs ys a e h k g =
+    rw (Post-is a e l (omega arith), g, ← append_assoc (take a l) vs (drop e l), h)
+    (sym (put_all_is l a vs ∙ sets-eq vs l a (omega arith)))
 
 -- one run behind the other is one run
 pub put_all_join : (xs ys l : List ℕ) (i n : ℕ) → length xs ≡ n → put_all (put_all l i xs) (i + n) ys ≡ put_all l i (xs ++ ys)

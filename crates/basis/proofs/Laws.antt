@@ -5,10 +5,11 @@ use borrow.Author.Tests.{eq-eqb, le-leb, le-ltb, lt-leb, lt-ltb, ne_eqb}
 use lib.Bits.{and_le_l, bit_or, or_add_and, or_zero_r}
 use lib.Dec.{eqb}
 use lib.ListN.{get_or-eq_default, get_or, length, length-map}
-use mathlib.Core.Bool.{Bool, false, true}
+use mathlib.Core.Bool.{Bool, false, true, ◌&&◌, ◌||◌}
 use mathlib.Core.List.{List, map}
 use mathlib.Core.Logic.{inl, inr, ◌⊎◌, ⊎_elim}
 use mathlib.Core.Path.{refl, sym, ◌∙◌, ◌≡◌}
+use mir.Val.{bool_byte}
 use native.Mathlib.Decide.{dec_lt, ℕ_discrete}
 use native.Mathlib.Numerals.{add-one}
 use native.Mathlib.Omega.{arith}
@@ -78,6 +79,15 @@ both_swap true false = refl
 both_swap false true = refl
 both_swap false false = refl
 
+-- what the code joins by `&` and `|`
+pub and_both : (a b : Bool) → (a && b) ≡ both a b
+and_both true b = refl
+and_both false b = refl
+
+pub or_either : (a b : Bool) → (a || b) ≡ either a b
+or_either true b = refl
+or_either false b = refl
+
 -- two tests of which each holds where the other does
 pub same_test : (a b : Bool) → (a ≡ true → b ≡ true) → (b ≡ true → a ≡ true) → a ≡ b
 same_test true b f g = sym (f refl)
@@ -122,6 +132,14 @@ module _ (p : ℕ → Bool) where
   pub every_more : (n : ℕ) (x y : Bool) → x ≡ every p n → y ≡ both (p n) x → y ≡ every p (n + 1)
   unfolding every
   every_more n x y e f = rw add-one (rw (← e) f)
+
+  -- the same where the loop joins by `&`; t is the turn's test
+  pub every_next : (n : ℕ) (x : Bool) → x ≡ every p n → (x && p n) ≡ every p (n + 1)
+  unfolding every
+  every_next n x e = rw add-one (rw (← e) (and_both x (p n) ∙ both_swap x (p n)))
+
+  pub every_turn : (n : ℕ) (x t : Bool) → x ≡ every p n → t ≡ p n → (x && t) ≡ every p (n + 1)
+  every_turn n x t e f = rw f (every_next n x e)
 
   pub every_end : (n m : ℕ) (x : Bool) → x ≡ every p n → n ≡ m → x ≡ every p m
   every_end n m x e f = rw (← f) e
@@ -181,6 +199,15 @@ module _ (p : ℕ → Bool) where
       go true f = false_true (sym e ∙ every_is n f k h)
       go false f = refl
 
+-- a test as a number
+byte_pick : (b : Bool) → bool_byte b ≡ pick b 1 0
+byte_pick true = refl
+byte_pick false = refl
+
+pub byte_most : (b : Bool) → bool_byte b ≤ 1
+byte_most true = omega arith
+byte_most false = omega arith
+
 -- a loop that counts
 module _ (p : ℕ → Bool) where
   pub count_none : (x : ℕ) → x ≡ 0 → x ≡ how_many p 0
@@ -194,6 +221,10 @@ module _ (p : ℕ → Bool) where
       go : (b : Bool) → x + pick b 1 0 ≡ pick b (suc x) x
       go true = omega arith
       go false = omega arith
+
+  -- the same where the loop adds `u8::from` of its test
+  pub count_next : (n x b : ℕ) → x ≡ how_many p n → b ≡ bool_byte (p n) → x + b ≡ how_many p (n + 1)
+  count_next n x b e f = count_more n x (x + b) e (rw (f, byte_pick (p n)))
 
   pub count_end : (n m x : ℕ) → x ≡ how_many p n → n ≡ m → x ≡ how_many p m
   count_end n m x e f = rw (← f) e

@@ -2,9 +2,13 @@
 use Prim.Native.Nat.{ℕ}
 use borrow.Fn.Kinds.{Dens, Out, ParamKind, ResultKind, ended_of, res_t}
 use contract.Lifetimes.{Lfts}
+use denote.Param.Laws.{IsCopy, Laws}
+use denote.RattleType.{RattleType}
 use denote.Triple.Clauses.{AtExit}
 use mathlib.Core.List.{List}
 use mathlib.Core.Path.{sym, ◌∙◌, ◌≡◌}
+use mir.Syntax.{Dict}
+use Rattle.std.specs.declared.clone.Clone as clone
 use Rattle.basis.proofs.numbers.half.Kinds as half-kinds
 use Rattle.basis.proofs.numbers.half.Reads as half-reads
 use Rattle.basis.proofs.numbers.put_half.Kinds as put-half-kinds
@@ -15,22 +19,14 @@ use Rattle.basis.proofs.numbers.word.Kinds as word-kinds
 use Rattle.basis.proofs.numbers.word.Reads as word-reads
 use Rattle.basis.proofs.numbers.word_inside.Kinds as word-inside-kinds
 use Rattle.basis.proofs.numbers.word_inside.Reads as word-inside-reads
-use Rattle.basis.proofs.places.byte_at.Kinds as byte-at-kinds
-use Rattle.basis.proofs.places.byte_at.Reads as byte-at-reads
-use Rattle.basis.proofs.places.half_at.Kinds as half-at-kinds
-use Rattle.basis.proofs.places.half_at.Reads as half-at-reads
+use Rattle.basis.proofs.places.at.Kinds as at-kinds
+use Rattle.basis.proofs.places.at.Reads as at-reads
 use Rattle.basis.proofs.places.put_byte.Kinds as put-byte-kinds
 use Rattle.basis.proofs.places.put_byte.Reads as put-byte-reads
-use Rattle.basis.proofs.places.word_at.Kinds as word-at-kinds
-use Rattle.basis.proofs.places.word_at.Reads as word-at-reads
 use Rattle.basis.proofs.tests.both.Kinds as both-kinds
 use Rattle.basis.proofs.tests.both.Reads as both-reads
-use Rattle.basis.proofs.tests.either.Kinds as either-kinds
-use Rattle.basis.proofs.tests.either.Reads as either-reads
 use Rattle.basis.proofs.tests.fault.Kinds as fault-kinds
 use Rattle.basis.proofs.tests.fault.Reads as fault-reads
-use Rattle.basis.proofs.tests.fault32.Kinds as fault32-kinds
-use Rattle.basis.proofs.tests.fault32.Reads as fault32-reads
 
 -- for the same arguments, no two answers; `Post` is the contract as the source has it
 abbrev pub OneAnswer : (n : ℕ) (ps : List (ParamKind n)) (r : ResultKind n) → Out n ps r → Type 0
@@ -39,23 +35,12 @@ OneAnswer n ps r Post = (κs : Lfts n) (a : Dens κs ps) (x y : (res_t r κs).De
 pub both_one : OneAnswer 0 both-kinds.ps both-kinds.r both-reads.Post
 both_one κs a x y s t p q = p ∙ sym q
 
-pub either_one : OneAnswer 0 either-kinds.ps either-kinds.r either-reads.Post
-either_one κs a x y s t p q = p ∙ sym q
-
 pub fault_one : OneAnswer 0 fault-kinds.ps fault-kinds.r fault-reads.Post
 fault_one κs a x y s t p q = p ∙ sym q
 
-pub fault32_one : OneAnswer 0 fault32-kinds.ps fault32-kinds.r fault32-reads.Post
-fault32_one κs a x y s t p q = p ∙ sym q
-
-pub byte_at_one : OneAnswer 1 byte-at-kinds.ps byte-at-kinds.r byte-at-reads.Post
-byte_at_one κs a x y s t p q = p ∙ sym q
-
-pub half_at_one : OneAnswer 1 half-at-kinds.ps half-at-kinds.r half-at-reads.Post
-half_at_one κs a x y s t p q = p ∙ sym q
-
-pub word_at_one : OneAnswer 1 word-at-kinds.ps word-at-kinds.r word-at-reads.Post
-word_at_one κs a x y s t p q = p ∙ sym q
+-- of each type
+pub at_one : (T : RattleType) (l : Laws T) (c : IsCopy T) (g : clone.Ghosts T.Denot) (d : Dict) → OneAnswer 2 (at-kinds.ps T l c) (at-kinds.r T l c) (at-reads.Post T l c g d)
+at_one T l c g d κs a x y s t p q = p ∙ sym q
 
 pub half_one : OneAnswer 1 half-kinds.ps half-kinds.r half-reads.Post
 half_one κs a x y s t p q = p ∙ sym q

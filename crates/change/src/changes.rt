@@ -18,14 +18,13 @@ impl Change {
     pub fn renewed(v: u8, vm: Vm, running: u8, queue: Queue, delivered: u8) -> Change
         ensures { result ≡ renewed_from running queue v vm delivered }
     {
-        let none = Notice::told(0, 0, 0, 0);
         Change {
             place: v,
-            vm: vm,
-            running: running,
-            queue: queue,
-            delivered: delivered,
-            notice: none,
+            vm,
+            running,
+            queue,
+            delivered,
+            notice: Notice::default(),
             result: 0,
             removed: 0,
         }
@@ -35,13 +34,12 @@ impl Change {
     pub fn answer(self, refusal: u8, running: u8, address: u32) -> Answer
         ensures { result ≡ answer_by self refusal running address }
     {
-        let notice = self.notice;
         Answer {
-            refusal: refusal,
-            running: running,
-            address: address,
+            refusal,
+            running,
+            address,
             delivered: self.delivered,
-            notice: notice,
+            notice: self.notice,
             result: self.result,
             removed: self.removed,
         }
@@ -51,9 +49,7 @@ impl Change {
     pub fn delivering(v: u8, d: Delivery, running: u8, queue: Queue) -> Change
         ensures { result ≡ renewed_from running queue v d.vm (number_of d.number) }
     {
-        let vm = d.vm;
-        let number = d.number;
-        Change::renewed(v, vm, running, queue, vms::number_of(number))
+        Change::renewed(v, d.vm, running, queue, vms::number_of(d.number))
     }
 
     // D6 to D9: the tick enters the VM that runs; `queue` is what the tick left of it.
@@ -67,18 +63,12 @@ impl Change {
     pub fn ending(v: u8, vm: Vm, standing: u8, running: u8, queue: Queue, told: Notice) -> Change
         ensures { result ≡ ending_from running queue v vm standing told }
     {
-        let ended = vm.ended(standing);
         let gone = queue.without(v);
-        let rest = gone.queue;
+        let runs = without(running, v);
         Change {
-            place: v,
-            vm: ended,
-            running: without(running, v),
-            queue: rest,
-            delivered: Answer::NOTHING,
             notice: told,
-            result: 0,
             removed: gone.count,
+            ..Change::renewed(v, vm.ended(standing), runs, gone.queue, Answer::NOTHING)
         }
     }
 
@@ -103,17 +93,15 @@ impl Change {
         ensures { result ≡ restarting_from running queue v entry }
     {
         let cleared = queue.without(v);
-        let none = Notice::told(0, 0, 0, 0);
-        let rest = cleared.queue;
         Change {
-            place: v,
-            vm: Vm::started(entry),
-            running: running,
-            queue: rest,
-            delivered: Answer::NOTHING,
-            notice: none,
-            result: 0,
             removed: cleared.count,
+            ..Change::renewed(
+                v,
+                Vm::started(entry),
+                running,
+                cleared.queue,
+                Answer::NOTHING,
+            )
         }
     }
 
@@ -121,28 +109,21 @@ impl Change {
     pub fn queueing(v: u8, vm: Vm, running: u8, queue: Queue) -> Change
         ensures { result ≡ renewed_from running (pushed v queue) v vm nobody }
     {
-        let longer = queue.pushed(v);
-        Change::renewed(v, vm, running, longer, Answer::NOTHING)
+        Change::renewed(v, vm, running, queue.pushed(v), Answer::NOTHING)
     }
 
     // D29, A6: the queue is full.
     pub fn turned_away(v: u8, vm: Vm, running: u8, queue: Queue) -> Change
         ensures { result ≡ turned_away_from running queue v vm }
     {
-        let none = Notice::told(0, 0, 0, 0);
         Change {
-            place: v,
-            vm: vm,
-            running: running,
-            queue: queue,
-            delivered: Answer::NOTHING,
-            notice: none,
             result: 1,
-            removed: 0,
+            ..Change::renewed(v, vm, running, queue, Answer::NOTHING)
         }
     }
 
     // D25 to D30: what a Call makes of VM v, whose next address is stored.
+    #[tactic(auto, using(basis::proofs::Laws::ways), unfolding(crate::specs::Changes::called_from))]
     pub fn called(
         v: u8,
         vm: Vm,
@@ -155,28 +136,19 @@ impl Change {
     ) -> Change
         ensures { result ≡ called_from running queue full handler v service argument vm }
     {
-        if service == 0 {
-            return Change::delivering(v, vm.delivered(handler), running, queue);
+        match service {
+            0 => Change::delivering(v, vm.delivered(handler), running, queue),
+            1 => Change::delivering(v, vm.returned().delivered(handler), running, queue),
+            2 => Change::injected(v, vm, running, queue, handler, argument),
+            3 => Change::ending(v, vm, Vm::DOWN, running, queue, Notice::told(2, v, 0, 0)),
+            4 if full => Change::turned_away(v, vm, running, queue),
+            4 => Change::queueing(v, vm, running, queue),
+            _ => Change::failing(v, vm, running, queue, 1, service as u32),
         }
-        if service == 1 {
-            return Change::delivering(v, vm.returned().delivered(handler), running, queue);
-        }
-        if service == 2 {
-            return Change::injected(v, vm, running, queue, handler, argument);
-        }
-        if service == 3 {
-            return Change::ending(v, vm, Vm::DOWN, running, queue, Notice::told(2, v, 0, 0));
-        }
-        if service == 4 {
-            if full {
-                return Change::turned_away(v, vm, running, queue);
-            }
-            return Change::queueing(v, vm, running, queue);
-        }
-        Change::failing(v, vm, running, queue, 1, service as u32)
     }
 
     // D31 to D36: what a Copy makes of VM v, whose next address is stored; code 0 means that nothing failed.
+    #[tactic(auto, using(basis::proofs::Laws::ways), unfolding(crate::specs::Changes::copying_from))]
     pub fn copying(v: u8, vm: Vm, running: u8, queue: Queue, code: u8, detail: u32) -> Change
         ensures { result ≡ copying_from running queue v vm code detail }
     {
@@ -199,6 +171,7 @@ impl Change {
     }
 }
 
+#[tactic(auto, using(basis::proofs::Laws::ways), unfolding(crate::specs::Changes::running_without))]
 fn without(running: u8, v: u8) -> u8
     ensures { result ≡ running_without running v }
 {

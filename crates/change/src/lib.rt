@@ -9,9 +9,9 @@ ghost use Rattle.change.specs.Answers.{notice_with, quietly};
 use guest::Vm;
 use queue::Queue;
 
-// A notice (A4, A5). Kind 0 is none.
+// A notice (A4, A5). Kind 0 is none, as the C interface has it.
 #[repr(C)]
-#[derive(Clone, Copy)]
+#[derive(Clone, Copy, Default)]
 pub struct Notice {
     pub kind: u8,
     pub vm: u8,
@@ -52,10 +52,10 @@ impl Notice {
         ensures { result ≡ notice_with kind vm code detail }
     {
         Notice {
-            kind: kind,
-            vm: vm,
-            code: code,
-            detail: detail,
+            kind,
+            vm,
+            code,
+            detail,
         }
     }
 }
@@ -70,11 +70,11 @@ impl Answer {
         ensures { result ≡ quietly refusal running address }
     {
         Answer {
-            refusal: refusal,
-            running: running,
-            address: address,
+            refusal,
+            running,
+            address,
             delivered: Answer::NOTHING,
-            notice: Notice::told(0, 0, 0, 0),
+            notice: Notice::default(),
             result: 0,
             removed: 0,
         }

@@ -38,7 +38,7 @@ of_write_one κs a x y s t p q = p ∙ sym q
 pub of_fault_one : OneAnswer 0 of-faults.ps of-faults.r of-fault.Post
 of_fault_one κs a x y s t p q = p ∙ sym q
 
-pub parts_sound_one : OneAnswer 4 parts-sounds.ps parts-sounds.r parts-sound.Post
+pub parts_sound_one : OneAnswer 5 parts-sounds.ps parts-sounds.r parts-sound.Post
 parts_sound_one κs a x y s t p q = p ∙ sym q
 
 pub of_start_one : OneAnswer 0 of-starts.ps of-starts.r of-start.Post

@@ -20,7 +20,7 @@ use table::Clock;
 
 // W1 to W13 of the parts of a state but for its regions; the test of the configuration, the longest, comes last.
 pub fn parts_sound(
-    vms: [Vm; 8],
+    vms: &[Vm; 8],
     clock: Clock,
     running: u8,
     queue: Queue,
@@ -32,7 +32,7 @@ pub fn parts_sound(
     owners: &[u8; 64],
     durations: &[u16; 64],
 ) -> bool
-    ensures { result ≡ sound_from (config_of count room slots entries.now handlers.now owners.now durations.now none) clock running queue vms }
+    ensures { result ≡ sound_from (config_of count room slots entries.now handlers.now owners.now durations.now none) clock running queue vms.now }
 {
     let rest = vms::rest_fresh(vms, count);
     let standings = vms::standings(vms);

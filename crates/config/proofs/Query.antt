@@ -82,3 +82,7 @@ shared_whole c v w a way n e f =
           (access_is c v a 1 2 e).legal.regions.shared g.place h.place g.listed h.listed (may_write (permission_at c.regions g.place) g.permits)
           (λ z. n (sym g.held ∙ z ∙ h.held)) (omega (arith, g.from, h.to)) (omega (arith, h.from, g.to));
     }
+
+-- H1: a legal list is not too long
+pub legal_few : (c : Config) → legal c ≡ true → leb c.regions.count 64 ≡ true
+legal_few c e = le-leb c.regions.count 64 (legal_is c e).regions.few

@@ -11,14 +11,14 @@ use Rattle.config.proofs.Config.serves_all.Kinds as serves-kinds
 use Rattle.config.proofs.Config.serves_all.Reads as serves-reads
 
 -- C1, C2
-pub allows_one : OneAnswer 0 allows-kinds.ps allows-kinds.r allows-reads.Post
+pub allows_one : OneAnswer 1 allows-kinds.ps allows-kinds.r allows-reads.Post
 allows_one κs a x y s t p q = p ∙ sym q
 
-pub legal_one : OneAnswer 0 legal-kinds.ps legal-kinds.r legal-reads.Post
+pub legal_one : OneAnswer 1 legal-kinds.ps legal-kinds.r legal-reads.Post
 legal_one κs a x y s t p q = p ∙ sym q
 
 pub parts_one : OneAnswer 4 parts-kinds.ps parts-kinds.r parts-reads.Post
 parts_one κs a x y s t p q = p ∙ sym q
 
-pub serves_one : OneAnswer 0 serves-kinds.ps serves-kinds.r serves-reads.Post
+pub serves_one : OneAnswer 1 serves-kinds.ps serves-kinds.r serves-reads.Post
 serves_one κs a x y s t p q = p ∙ sym q

@@ -41,51 +41,38 @@ impl Config {
     pub const SPARE: u8 = basis::NOBODY;
 
     // Whether the configuration keeps S1 to S7 and H1 to H6.
-    pub fn legal(self) -> bool
-        ensures { result ≡ legal self }
+    pub fn legal(&self) -> bool
+        ensures { result ≡ legal self.now }
     {
-        let entries = self.entries;
-        let handlers = self.handlers;
-        let owners = self.owners;
-        let durations = self.durations;
-        if parts_legal(
-            self.count, self.room, self.slots, &entries, &handlers, &owners, &durations,
-        ) {
-            let regions = self.regions;
-            return regions.lawful(self.count);
-        }
-        false
+        parts_legal(
+            self.count,
+            self.room,
+            self.slots,
+            &self.entries,
+            &self.handlers,
+            &self.owners,
+            &self.durations,
+        ) && self.regions.lawful(self.count)
     }
 
     // The access query: whether VM v may access so many bytes from an address on, in one way (H8 to H11). A caller that knows the
     // configuration to be legal asks `grants::allows`.
-    pub fn allows(self, v: u8, address: u32, length: u32, way: u8) -> bool
-        ensures { result ≡ access self v address length way }
+    #[tactic(auto, using(basis::proofs::Laws::tests, crate::proofs::Query::legal_few), unfolding(crate::specs::Sizes::access))]
+    pub fn allows(&self, v: u8, address: u32, length: u32, way: u8) -> bool
+        ensures { result ≡ access self.now v address length way }
     {
-        if v >= self.count {
-            return false;
-        }
-        if regions::is_known(way) {
-            if self.legal() {
-                let regions = self.regions;
-                return grants::allows(regions, v, address, length, way);
-            }
-            return false;
-        }
-        false
+        v < self.count
+            && regions::is_known(way)
+            && self.legal()
+            && grants::allows(&self.regions, v, address, length, way)
     }
 
     // S6: whether each VM has a slot; no table is longer than 64 slots.
-    pub fn serves_all(self) -> bool
-        ensures { result ≡ both (nat_le self.slots 64) (vms_served self) }
+    #[tactic(auto, using(basis::proofs::Laws::tests), unfolding(crate::specs::Sizes::vms_served, crate::specs::Sizes::has_slot))]
+    pub fn serves_all(&self) -> bool
+        ensures { result ≡ both (nat_le self.now.slots 64) (vms_served self.now) }
     {
-        let slots = self.slots;
-        let owners = self.owners;
-        if slots <= Config::SLOTS {
-            places::each_served(self.count, slots, &owners)
-        } else {
-            false
-        }
+        self.slots <= Config::SLOTS && places::each_served(self.count, self.slots, &self.owners)
     }
 }
 
@@ -106,28 +93,17 @@ pub fn parts_legal(
 ) -> bool
     ensures { result ≡ legal (config_of count room slots entries.now handlers.now owners.now durations.now none) }
 {
-    if counts_fit(count, room, slots) {
-        places::all_fit(count, slots, entries, handlers, owners, durations)
-    } else {
-        false
-    }
+    counts_fit(count, room, slots)
+        && places::all_fit(count, slots, entries, handlers, owners, durations)
 }
 
 // S1, S2 and S3.
 fn counts_fit(count: u8, room: u8, slots: u8) -> bool
     ensures { result ≡ both (within 1 8 count) (both (nat_le room 16) (within 1 64 slots)) }
 {
-    if count < 1 {
-        return false;
-    }
-    if Config::VMS < count {
-        return false;
-    }
-    if Config::ROOM < room {
-        return false;
-    }
-    if slots < 1 {
-        return false;
-    }
-    slots <= Config::SLOTS
+    1 <= count
+        && count <= Config::VMS
+        && room <= Config::ROOM
+        && 1 <= slots
+        && slots <= Config::SLOTS
 }

@@ -11,10 +11,7 @@ use std::os::fd::AsRawFd;
 pub fn read_file(rt: &HostRuntime, path: &[u8], buf: &mut [u8]) -> usize
     ensures { IsPrefixLen result buf.new }
 {
-    match read_opened(rt, path, buf) {
-        Some(n) => n,
-        None => 0,
-    }
+    read_opened(rt, path, buf).unwrap_or(0)
 }
 
 // The same, and None of one that does not open, with the buffer as it was: whether it is there is told apart (N13). A path that is no text names no file.
@@ -22,20 +19,9 @@ pub fn read_opened(rt: &HostRuntime, path: &[u8], buf: &mut [u8]) -> Option<usiz
     ensures front { IfSome result (λ n. IsPrefixLen n buf.new) }
     ensures kept { IfNone result (buf.new ≡ buf.old) }
 {
-    match str::from_utf8(path) {
-        Ok(name) => read_named(rt, name, buf),
-        Err(_) => None,
-    }
-}
-
-fn read_named(rt: &HostRuntime, name: &str, buf: &mut [u8]) -> Option<usize>
-    ensures front { IfSome result (λ n. IsPrefixLen n buf.new) }
-    ensures kept { IfNone result (buf.new ≡ buf.old) }
-{
-    match File::open(rt, name) {
-        Ok(file) => Some(io::read_full(file.as_raw_fd(), buf)),
-        Err(_) => None,
-    }
+    let name = str::from_utf8(path).ok()?;
+    let file = File::open(rt, name).ok()?;
+    Some(io::read_full(file.as_raw_fd(), buf))
 }
 
 // Prints the run of the log `events.bin` on the image `config.bin`, both in the current folder (N1). At most 4,096 bytes of the
@@ -46,56 +32,57 @@ pub fn run_files(rt: &HostRuntime, states: bool) {
     let mut out = io::large_buffer();
     let m = read_file(rt, b"config.bin", &mut image);
     let n = read_file(rt, b"events.bin", &mut log);
-    print_run(&image[..m], &log[..n], states, &mut out);
+    let _ = print_run(&image[..m], &log[..n], states, &mut out);
 }
 
-// Prints a run; false where standard output cannot be written (N12).
-pub fn print_run(image: &[u8], log: &[u8], states: bool, out: &mut [u8]) -> bool {
-    let mut p = replay::begin(image, log);
-    let mut turns: u32 = 60002;
-    while 0 < turns {
-        let t = replay::fill(out, log, states, p);
-        let n = t.used;
-        if !io::write_all(1, &out[0..n]) {
-            return false;
+// Standard output cannot be written (N12).
+#[derive(Clone, Copy, PartialEq, Eq, Debug)]
+pub struct Unwritable;
+
+// Prints a run.
+pub fn print_run(image: &[u8], log: &[u8], states: bool, out: &mut [u8]) -> Result<(), Unwritable> {
+    let mut place = replay::begin(image, log);
+    for _ in 0..60002 {
+        let turn = replay::fill(out, log, states, place);
+        print(&out[..turn.used])?;
+        place = turn.place;
+        if replay::over(place.stage) {
+            break;
         }
-        p = t.place;
-        let stage = p.stage;
-        if replay::over(stage) {
-            return true;
-        }
-        turns -= 1;
     }
-    true
+    Ok(())
 }
 
 // Prints a case (N10): the run with its states, the image written again where it was accepted, and a dot.
-pub fn print_case(image: &[u8], log: &[u8], out: &mut [u8]) -> bool {
-    if !print_run(image, log, true, out) {
-        return false;
-    }
-    if !print_again(image, out) {
-        return false;
-    }
-    io::write_all(1, b".\n")
+pub fn print_case(image: &[u8], log: &[u8], out: &mut [u8]) -> Result<(), Unwritable> {
+    print_run(image, log, true, out)?;
+    print_again(image, out)?;
+    print(b".\n")
 }
 
 // Prints an image that is accepted, written again from its configuration (N10). A buffer shorter than 2,080 bytes has no room for it.
-fn print_again(image: &[u8], out: &mut [u8]) -> bool {
-    let r = image_reader::read(image);
-    if r.fault != 0 {
-        return true;
-    }
+fn print_again(image: &[u8], out: &mut [u8]) -> Result<(), Unwritable> {
+    let Ok(config) = image_reader::read(image) else {
+        return Ok(());
+    };
     if out.len() < 2080 {
-        return true;
+        return Ok(());
     }
-    let config = r.config;
     let mut again: [u8; 1036] = [0; 1036];
-    let w = image_writer::write(config, &mut again);
-    let size = w.size;
+    let Ok(size) = image_writer::write(&config, &mut again) else {
+        return Ok(());
+    };
     if 1036 < size {
-        return true;
+        return Ok(());
     }
-    let n = lines::put_image(out, &again[0..size]);
-    io::write_all(1, &out[0..n])
+    let n = lines::put_image(out, &again[..size]);
+    print(&out[..n])
+}
+
+fn print(bytes: &[u8]) -> Result<(), Unwritable> {
+    if io::write_all(1, bytes) {
+        Ok(())
+    } else {
+        Err(Unwritable)
+    }
 }

@@ -4,7 +4,7 @@ use borrow.Author.Tests.{eq-eqb, eqb-true, le-leb, le-ltb, lt-ltb, ltb-false, ne
 use lib.Dec.{eqb, leb, ltb}
 use lib.ListN.{get_or, length, take}
 use lib.Seq.{take-suc}
-use mathlib.Core.Bool.{Bool, false, true}
+use mathlib.Core.Bool.{Bool, false, not, true}
 use mathlib.Core.List.{List, [], ◌++◌, ◌∷◌}
 use mathlib.Core.Logic.{inl, inr, ◌≢◌, ◌⊎◌}
 use mathlib.Core.Path.{ap, refl, sym, ◌∙◌, ◌≡◌}
@@ -12,35 +12,45 @@ use native.Mathlib.Numerals.{add-one}
 use native.Mathlib.Omega.{arith}
 use Rattle.basis.proofs.Laws.{false_true, pick_case}
 use Rattle.basis.specs.Choice.{both, either, pick}
-use Rattle.copies.specs.Failing.{extent_failure, failed, fine, first_failure, or_else}
+use Rattle.copies.specs.Failing.{extent_failure, failed, failing, fine, first_failure, or_else}
 use Rattle.copies.specs.declared.Failure.{Failure}
 use Rattle.window.specs.Pieces.{fits, inside, no_extent}
 use Rattle.window.specs.declared.Extent.{Extent}
 use Rattle.window.specs.declared.Window.{Window}
+use Rattle.std.specs.Option.{is_some}
+use Rattle.std.specs.Prelude.{None, Option, Some}
 
 -- the way of the code through one extent
-module _ (query : ℕ → ℕ → ℕ → Bool) (w : Window) (x : Extent) (r : Failure) where
-  pub extent_none : x.length ≡ 0 → r ≡ fine → r ≡ extent_failure query w x
+module _ (query : ℕ → ℕ → ℕ → Bool) (w : Window) (x : Extent) where
+  pub extent_none : x.length ≡ 0 → None ≡ failing (extent_failure query w x)
   unfolding extent_failure
-  extent_none h e = rw (eq-eqb x.length 0 h) e
+  extent_none h = rw (eq-eqb x.length 0 h)
 
-  pub extent_long : x.length ≢ 0 → 256 < x.length → r ≡ failed 7 x.length → r ≡ extent_failure query w x
+  pub extent_long : x.length ≢ 0 → 256 < x.length → Some (failed 7 x.length) ≡ failing (extent_failure query w x)
   unfolding extent_failure
-  extent_long h g e = rw (ne_eqb x.length 0 h, lt-ltb 256 x.length g) e
+  extent_long h g = rw (ne_eqb x.length 0 h, lt-ltb 256 x.length g)
 
   module _ (b : Bool) (h : x.length ≢ 0) (g : x.length ≤ 256) (s : b ≡ both (query x.source x.length 1) (inside w x.source x.length)) where
-    pub extent_source : b ≡ false → r ≡ failed 3 x.source → r ≡ extent_failure query w x
+    pub extent_source : b ≡ false → Some (failed 3 x.source) ≡ failing (extent_failure query w x)
     unfolding extent_failure
-    extent_source t e = rw (ne_eqb x.length 0 h, le-ltb 256 x.length g, ← s, t) e
+    extent_source t = rw (ne_eqb x.length 0 h, le-ltb 256 x.length g, ← s, t)
 
     module _ (d : Bool) (u : d ≡ both (query x.destination x.length 2) (inside w x.destination x.length)) (t : b ≡ true) where
-      pub extent_destination : d ≡ false → r ≡ failed 3 x.destination → r ≡ extent_failure query w x
+      pub extent_destination : d ≡ false → Some (failed 3 x.destination) ≡ failing (extent_failure query w x)
       unfolding extent_failure
-      extent_destination i e = rw (ne_eqb x.length 0 h, le-ltb 256 x.length g, ← s, t, ← u, i) e
+      extent_destination i = rw (ne_eqb x.length 0 h, le-ltb 256 x.length g, ← s, t, ← u, i)
 
-      pub extent_good : d ≡ true → r ≡ fine → r ≡ extent_failure query w x
+      pub extent_good : d ≡ true → None ≡ failing (extent_failure query w x)
       unfolding extent_failure
-      extent_good i e = rw (ne_eqb x.length 0 h, le-ltb 256 x.length g, ← s, t, ← u, i) e
+      extent_good i = rw (ne_eqb x.length 0 h, le-ltb 256 x.length g, ← s, t, ← u, i)
+
+-- whether the code finds a failure
+found : (f : Failure) (b : Bool) → b ≡ is_some (failing f) → eqb f.code 0 ≡ not b
+found f b e = go (eqb f.code 0) refl
+  where
+    go : (t : Bool) → eqb f.code 0 ≡ t → eqb f.code 0 ≡ not b
+    go true h = let i : b ≡ false = rw h at e in h ∙ ap not (sym i)
+    go false h = let i : b ≡ true = rw h at e in h ∙ ap not (sym i)
 
 -- an extent in which nothing fails can be copied
 pub fine_fits : (query : ℕ → ℕ → ℕ → Bool) (w : Window) (x : Extent) → (extent_failure query w x).code ≡ 0 → fits w x ≡ true
@@ -95,14 +105,41 @@ module _ (f : Extent → Failure) (clean : (x : Extent) → (f x).code ≡ 0 →
       by true e h = h
       by false e h = rw e
 
-  pub first_none : (r : Failure) (xs : List Extent) → r ≡ fine → r ≡ first_failure f (take 0 xs)
+  -- a walk through the first extents: nothing fails in them
+  pub first_none : (xs : List Extent) → first_failure f (take 0 xs) ≡ fine
   unfolding first_failure
-  first_none r xs e = e
+  first_none xs = refl
 
-  pub first_more : (xs : List Extent) (k : ℕ) (r y z : Failure) → k < length xs → r ≡ first_failure f (take k xs) → y ≡ f (get_or xs k no_extent)
-      → z ≡ or_else r y → z ≡ first_failure f (take (k + 1) xs)
-  first_more xs k r y z h e g i =
-      i ∙ rw (e, g) (sym (ap (first_failure f) (rw add-one (take-suc xs k no_extent h)) ∙ first_append (take k xs) (get_or xs k no_extent)))
+  pub first_pass : (xs : List Extent) (k : ℕ) (y : Option Failure) (b : Bool) → k < length xs → first_failure f (take k xs) ≡ fine → y ≡ failing (f (get_or xs k no_extent))
+      → b ≡ is_some y → b ≡ false → first_failure f (take (k + 1) xs) ≡ fine
+  first_pass xs k y b h e g i j =
+      let t = rw g at i in
+      let z : f (get_or xs k no_extent) ≡ fine = clean (get_or xs k no_extent) (eqb-true (f (get_or xs k no_extent)).code 0 (found (f (get_or xs k no_extent)) b t ∙ ap not j)) in
+      ap (first_failure f) (rw add-one (take-suc xs k no_extent h)) ∙ first_append (take k xs) (get_or xs k no_extent) ∙ rw (e, z)
+
+  -- or something does in the next one
+  first_here : (xs : List Extent) (n k : ℕ) → k < n → k < length xs → first_failure f (take k xs) ≡ fine → eqb (f (get_or xs k no_extent)).code 0 ≡ false
+      → f (get_or xs k no_extent) ≡ first_failure f (take n xs)
+  unfolding first_failure
+  first_here [] n k h l e g = absurd (omega arith)
+  first_here (x ∷ xs) zero k h l e g = absurd (omega arith)
+  first_here (x ∷ xs) (suc n) zero h l e g = rw g
+  first_here (x ∷ xs) (suc n) (suc k) h l e g = by (eqb (f x).code 0) refl e (first_here xs n k (omega arith) (omega arith))
+    where
+      by : (b : Bool) → eqb (f x).code 0 ≡ b → pick b (first_failure f (take k xs)) (f x) ≡ fine
+          → (first_failure f (take k xs) ≡ fine → eqb (f (get_or xs k no_extent)).code 0 ≡ false → f (get_or xs k no_extent) ≡ first_failure f (take n xs))
+          → f (get_or xs k no_extent) ≡ pick b (first_failure f (take n xs)) (f x)
+      by true i e r = r e g
+      by false i e r = false_true (sym i ∙ ap (λ (q : Failure). eqb q.code 0) e)
+
+  pub first_hit : (xs : List Extent) (n k : ℕ) (y : Option Failure) (b : Bool) → k < n → k < length xs → first_failure f (take k xs) ≡ fine → y ≡ failing (f (get_or xs k no_extent))
+      → b ≡ is_some y → b ≡ true → y ≡ failing (first_failure f (take n xs))
+  first_hit xs n k y b h l e g i j =
+      let t = rw g at i in
+      g ∙ ap failing (first_here xs n k h l e (found (f (get_or xs k no_extent)) b t ∙ ap not j))
+
+  pub first_end : (xs : List Extent) (n k : ℕ) → first_failure f (take k xs) ≡ fine → k ≡ n → None ≡ failing (first_failure f (take n xs))
+  first_end xs n k e g = rw (← g, e)
 
   -- where none fails, each is fine
   pub first_each : (xs : List Extent) (n k : ℕ) → (first_failure f (take n xs)).code ≡ 0 → k < n → k < length xs → (f (get_or xs k no_extent)).code ≡ 0

@@ -10,5 +10,5 @@ pub told_one : OneAnswer 0 told-kinds.ps told-kinds.r told-reads.Post
 told_one κs a x y s t p q = p ∙ sym q
 
 -- C1, C2
-pub failure_of_one : OneAnswer 0 failure-of-kinds.ps failure-of-kinds.r failure-of-reads.Post
+pub failure_of_one : OneAnswer 1 failure-of-kinds.ps failure-of-kinds.r failure-of-reads.Post
 failure_of_one κs a x y s t p q = p ∙ sym q

@@ -1,5 +1,5 @@
 -- What fails in a Copy (D33, D34), with the code and the data that A5 gives it.
-use Rattle.std.specs.Prelude.{ℕ, eqb, leb, ltb, take, Bool, List, [], ◌∷◌}
+use Rattle.std.specs.Prelude.{ℕ, eqb, leb, ltb, take, Bool, List, None, Option, Some, [], ◌∷◌}
 use Rattle.basis.specs.Choice.{both, pick}
 use Rattle.copies.specs.declared.Failure.{Failure}
 use Rattle.grants.specs.Access.{allowed}
@@ -14,6 +14,14 @@ failed code detail = record { code = code; detail = detail }
 
 abbrev pub fine : Failure
 fine = failed 0 0
+
+-- the same as the code has it: none in place of code 0; and as it is told
+abbrev pub failing : Failure → Option Failure
+failing f = pick (eqb f.code 0) None (Some f)
+
+abbrev pub told : Option Failure → Failure
+told None = fine
+told (Some f) = f
 
 -- H8 to H10: the access query of VM v in a configuration with these regions, which is legal and has that VM
 abbrev pub may : Regions → ℕ → ℕ → ℕ → ℕ → Bool

@@ -1,8 +1,7 @@
 // The extents of a Copy, checked one after the other (D34).
 ghost use Rattle.std.specs.Prelude.{◌≤◌, take, ◌≡◌};
 ghost use Rattle.basis.specs.Choice.{both};
-ghost use Rattle.copies.specs.Failing.{extent_failure, first_failure, may, or_else};
-ghost use Rattle.regions.specs.Rules.{listed};
+ghost use Rattle.copies.specs.Failing.{extent_failure, failing, first_failure, may};
 ghost use Rattle.window.specs.Pieces.{inside};
 
 use crate::Failure;
@@ -11,110 +10,55 @@ use window::{Extent, Window};
 
 // The first failure of the first n extents.
 pub fn first_failure(
-    count: u8,
-    holders: &[u8; 64],
-    permissions: &[u8; 64],
-    starts: &[u32; 64],
-    lasts: &[u32; 64],
+    regions: &Regions,
     v: u8,
     w: Window,
-    xs: [Extent; 8],
+    extents: &[Extent; 8],
     n: usize,
-) -> Failure
+) -> Option<Failure>
     requires { n ≤ 8 }
-    ensures { result ≡ first_failure (extent_failure (may (listed count holders.now permissions.now starts.now lasts.now) v) w) (take n xs) }
+    ensures { result ≡ failing (first_failure (extent_failure (may regions.now v) w) (take n extents.now)) }
 {
-    let mut f = Failure::told(0, 0);
-    let mut k: usize = 0;
-    while k < n {
-        let x = xs[k];
-        f = or_else(
-            f,
-            extent_failure(count, holders, permissions, starts, lasts, v, w, x),
-        );
-        k = k + 1;
+    for k in 0..n {
+        let failure = extent_failure(regions, v, w, extents[k]);
+        if failure.is_some() {
+            return failure;
+        }
     }
-    f
-}
-
-// The first failure of two.
-fn or_else(a: Failure, b: Failure) -> Failure
-    ensures { result ≡ or_else a b }
-{
-    if a.code == 0 { b } else { a }
+    None
 }
 
 // What fails in one extent: its length, then its source, then its destination.
-fn extent_failure(
-    count: u8,
-    holders: &[u8; 64],
-    permissions: &[u8; 64],
-    starts: &[u32; 64],
-    lasts: &[u32; 64],
-    v: u8,
-    w: Window,
-    x: Extent,
-) -> Failure
-    ensures { result ≡ extent_failure (may (listed count holders.now permissions.now starts.now lasts.now) v) w x }
+fn extent_failure(regions: &Regions, v: u8, w: Window, x: Extent) -> Option<Failure>
+    ensures { result ≡ failing (extent_failure (may regions.now v) w x) }
 {
-    let n = x.length;
-    let from = x.source;
-    let to = x.destination;
-    if n == 0 {
-        return Failure::told(0, 0);
+    if x.length == 0 {
+        return None;
     }
-    if Extent::LONGEST < n {
-        return Failure::told(7, n);
+    if Extent::LONGEST < x.length {
+        return Some(Failure {
+            code: Failure::TOO_LONG,
+            detail: x.length,
+        });
     }
-    let way = Regions::READ;
-    if reaches(
-        count,
-        holders,
-        permissions,
-        starts,
-        lasts,
-        v,
-        w,
-        from,
-        n,
-        way,
-    ) {
-        let way = Regions::WRITE;
-        if reaches(count, holders, permissions, starts, lasts, v, w, to, n, way) {
-            return Failure::told(0, 0);
-        }
-        return Failure::told(3, to);
+    if !reaches(regions, v, w, x.source, x.length, Regions::READ) {
+        return Some(Failure {
+            code: Failure::DENIED,
+            detail: x.source,
+        });
     }
-    Failure::told(3, from)
+    if !reaches(regions, v, w, x.destination, x.length, Regions::WRITE) {
+        return Some(Failure {
+            code: Failure::DENIED,
+            detail: x.destination,
+        });
+    }
+    None
 }
 
 // Whether the VM may use the bytes in that way, and they lie in the window.
-fn reaches(
-    count: u8,
-    holders: &[u8; 64],
-    permissions: &[u8; 64],
-    starts: &[u32; 64],
-    lasts: &[u32; 64],
-    v: u8,
-    w: Window,
-    address: u32,
-    n: u32,
-    way: u8,
-) -> bool
-    ensures { result ≡ both (may (listed count holders.now permissions.now starts.now lasts.now) v address n way) (inside w address n) }
+fn reaches(regions: &Regions, v: u8, w: Window, address: u32, n: u32, way: u8) -> bool
+    ensures { result ≡ both (may regions.now v address n way) (inside w address n) }
 {
-    if grants::allows_in(
-        count,
-        holders,
-        permissions,
-        starts,
-        lasts,
-        v,
-        address,
-        n,
-        way,
-    ) {
-        return w.inside(address, n);
-    }
-    false
+    grants::allows(regions, v, address, n, way) && w.inside(address, n)
 }

@@ -4,12 +4,12 @@
 mod checking;
 
 ghost use Rattle.std.specs.Prelude.{◌≡◌};
-ghost use Rattle.copies.specs.Failing.{copy_failure, failed, may};
+ghost use Rattle.copies.specs.Failing.{copy_failure, failing, may, told};
 
 use regions::Regions;
 use window::{Pieces, Window};
 
-// Why a Copy ends its VM (A5): a code with its data. Code 0: nothing fails.
+// Why a Copy ends its VM (A5): a code with its data, as the C interface has both.
 #[derive(Clone, Copy)]
 pub struct Failure {
     pub code: u8,
@@ -17,38 +17,31 @@ pub struct Failure {
 }
 
 impl Failure {
-    pub fn told(code: u8, detail: u32) -> Failure
-        ensures { result ≡ failed code detail }
+    // The codes of A5: bytes that the VM may not use, too many extents, too long an extent.
+    pub const DENIED: u8 = 3;
+
+    pub const TOO_MANY: u8 = 6;
+
+    pub const TOO_LONG: u8 = 7;
+
+    // What is told of it: zeros where nothing fails (A4).
+    pub fn told(failure: Option<Failure>) -> Failure
+        ensures { result ≡ told failure }
     {
-        Failure {
-            code: code,
-            detail: detail,
-        }
+        failure.unwrap_or(Failure { code: 0, detail: 0 })
     }
 }
 
 // What fails in a Copy of VM v, for a caller that knows the configuration to be legal and the VM to be one of it. No list is longer
 // than 64 regions.
-pub fn failure_of(regions: Regions, v: u8, w: Window, p: Pieces) -> Failure
-    ensures { result ≡ copy_failure (may regions v) w p }
+pub fn failure_of(regions: &Regions, v: u8, w: Window, p: Pieces) -> Option<Failure>
+    ensures { result ≡ failing (copy_failure (may regions.now v) w p) }
 {
     if Pieces::MOST < p.count {
-        return Failure::told(6, p.count as u32);
+        return Some(Failure {
+            code: Failure::TOO_MANY,
+            detail: u32::from(p.count),
+        });
     }
-    let holders = regions.holders;
-    let permissions = regions.permissions;
-    let starts = regions.starts;
-    let lasts = regions.lasts;
-    let xs = p.extents();
-    checking::first_failure(
-        regions.count,
-        &holders,
-        &permissions,
-        &starts,
-        &lasts,
-        v,
-        w,
-        xs,
-        p.count as usize,
-    )
+    checking::first_failure(regions, v, w, &p.extents(), p.count as usize)
 }

@@ -34,7 +34,7 @@ fresh_facts g l =
       named = λ h. absurd (h refl);
       flags = (omega arith, omega arith);
       standings = λ k h. rw (get_or-replicate 8 k fresh fresh h) (omega arith);
-      counted = counts_none [];
+      counted = counts_none;
     }
 
 -- T6

@@ -1,13 +1,14 @@
 -- Nobody sees two old wheels and two new ones (C11): after any event the window holds all of a Copy, or nothing of it.
-use Prim.Native.Nat.{ℕ, ◌<◌, ◌≤◌}
-use borrow.Author.Tests.{eqb-true}
-use lib.Dec.{eqb}
-use lib.ListN.{get_or, length-take, take}
+use Prim.Native.Nat.{ℕ, ◌+◌, ◌<◌, ◌≤◌}
+use borrow.Author.Tests.{eqb-true, ltb-true}
+use lib.Dec.{eqb, leb}
+use lib.ListN.{get_or, length, length-take, take}
 use lib.Seq.{get_or-take}
 use mathlib.Core.Bool.{Bool, false, true}
 use mathlib.Core.List.{List}
 use mathlib.Core.Logic.{inl, inr, ◌⊎◌}
 use mathlib.Core.Path.{ap, refl, ◌∙◌, ◌≡◌}
+use native.Mathlib.Decide.{dec_lt}
 use native.Mathlib.Omega.{arith}
 use Rattle.basis.proofs.Laws.{both_right}
 use Rattle.basis.specs.Choice.{pick}
@@ -22,7 +23,8 @@ use Rattle.event.specs.declared.Event.TheVariants.{Call, Copy, Extra, Fault, Res
 use Rattle.event.specs.declared.Event.{Event}
 use Rattle.window.proofs.Meaning.{copied_each}
 use Rattle.window.specs.Pieces.{extents, no_extent, window_of}
-use Rattle.window.specs.Ranges.{Apart, all_fit, source_of}
+use Rattle.window.specs.Ranges.{Apart, all_fit, in_destination, source_of}
+use Rattle.std.proofs.lemmas.List.{get_or_past}
 use Rattle.window.specs.declared.Extent.{Extent}
 use Rattle.window.specs.declared.Pieces.{Pieces}
 
@@ -55,13 +57,23 @@ module _ (c : Core) (p : Pieces) (base : ℕ) (m : List ℕ) where
             rw (get_or-take p.count (extents p) k no_extent low) (f.1 k low)),
       )
 
+  -- past the last extent stands none, which writes nowhere
+  in_use : (k i : ℕ) → in_destination (get_or (extents p) k no_extent) (base + i) ≡ true → k < length (extents p)
+  in_use k i d =
+      elim (dec_lt k (length (extents p))) [
+        | yes g ↦ g
+        | no g ↦ (let z = rw (get_or_past (extents p) k no_extent (omega arith)) at d in
+            let y = ltb-true (base + i) 0 (both_right (leb 0 (base + i)) _ z) in
+            absurd (omega (arith, y)))
+      ]
+
   copied_new : Apart (take p.count (extents p)) → copies c (window_of base m) p ≡ true → AllNew c p base m
   unfolding memory_as
   copied_new a h k i l d =
       let f = used_fit h in
       let same = get_or-take p.count (extents p) k no_extent l in
       rw h
-      (copied_each base (take p.count (extents p)) m f.1 a k i (omega (arith, f.0, length-take p.count (extents p))) (rw same d)
+      (copied_each base (take p.count (extents p)) m f.1 a k i (omega (arith, in_use k i d, length-take p.count (extents p))) (rw same d)
       ∙ ap (λ (x : Extent). get_or m (source_of base x i) 0) same)
 
   -- C11: where no extent touches what a later one reads or writes, as with four wheels, every destination is new or no byte is

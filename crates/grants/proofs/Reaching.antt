@@ -3,13 +3,14 @@ use Prim.Native.Nat.{suc, zero, ℕ, ◌+◌, ◌-◌, ◌<◌, ◌^◌, ◌≤�
 use borrow.Author.Tests.{eq-eqb, le-leb, leb-true, lt-leb, ne_eqb}
 use lib.Dec.{eqb, leb}
 use mathlib.Core.Bool.{Bool, false, true}
-use mathlib.Core.Path.{refl, sym, ◌∙◌, ◌≡◌}
-use native.Mathlib.Decide.{dec_lt}
+use mathlib.Core.Path.{ap, refl, sym, ◌∙◌, ◌≡◌}
+use native.Mathlib.Decide.{dec_lt, ℕ_discrete}
 use native.Mathlib.Omega.{arith}
 use Rattle.basis.proofs.Laws.{both_left, both_of, both_right, every_miss, every_of, some_of}
 use Rattle.basis.specs.Count.{some, up_to}
 use Rattle.grants.specs.Access.{allowed, allows, granted, granted_all, grants, permits}
-use Rattle.grants.specs.Cover.{reach}
+use Rattle.grants.specs.Cover.{reach, reached}
+use Rattle.std.specs.Prelude.{None, Option, Some}
 use Rattle.regions.specs.Rules.{holder_at, last_at, permission_at, start_at}
 use Rattle.regions.specs.declared.Regions.{Regions}
 
@@ -57,9 +58,9 @@ module _ (r : Regions) (v way : ℕ) where
           let i = bounds (holder_at r k) (permission_at r k) (start_at r k) (last_at r k) v way a g in
           (omega arith, λ b m n. some_of (grants r v way b) r.count k l (within (holder_at r k) (permission_at r k) (start_at r k) (last_at r k) v way a b g m (omega arith)))
 
-  pub reach_none : (a next : ℕ) → next ≡ reach r v way a r.count → next ≡ 0 → granted r v way a ≡ false
+  pub reach_none : (a : ℕ) → reach r v way a r.count ≡ 0 → granted r v way a ≡ false
   unfolding granted
-  reach_none a next e z = go (reach_is a r.count)
+  reach_none a z = go (reach_is a r.count)
     where
       go : Reach a r.count → granted r v way a ≡ false
       go (stuck x y) = y
@@ -79,15 +80,36 @@ module _ (r : Regions) (v way : ℕ) where
         | no m ↦ (reach_far at next e z).1 a (omega arith) l
       ]
 
-  pub walk_miss : (from at end next : ℕ) → from ≤ at → at < end → next ≡ reach r v way at r.count → next ≡ 0 → false ≡ granted_all r v way from (end - from)
+  pub walk_miss : (from at end : ℕ) → from ≤ at → at < end → reach r v way at r.count ≡ 0 → false ≡ granted_all r v way from (end - from)
   unfolding granted_all
-  walk_miss from at end next h l e z =
+  walk_miss from at end h l z =
       let i : from + (at - from) ≡ at = omega arith in
-      every_miss _ (end - from) (at - from) (omega arith) (rw i (reach_none at next e z))
+      every_miss _ (end - from) (at - from) (omega arith) (rw i (reach_none at z))
 
   pub walk_done : (from at end : ℕ) → from ≤ end → end ≤ at → Walked from at → true ≡ granted_all r v way from (end - from)
   unfolding granted_all
   walk_done from at end h l w = sym (every_of _ (end - from) (λ i m. w (from + i) (omega arith) (omega arith)))
+
+-- how the walk tells the reach
+pub reached_far : (m n : ℕ) → n ≡ m → (n ≡ 0 → ⊥) → Some n ≡ reached m
+reached_far m n e z = let f : Some m ≡ reached m = rw (ne_eqb m 0 (λ h. z (e ∙ h))) in ap Some e ∙ f
+
+pub reached_nowhere : (m : ℕ) → 0 ≡ m → None ≡ reached m
+reached_nowhere m e = rw (← e)
+
+pub reached_is : (m n : ℕ) → reached m ≡ Some n → (n ≡ m) × (n ≡ 0 → ⊥)
+reached_is m n e =
+    elim (ℕ_discrete m 0) [
+      | yes z ↦ (let f : ◌≡◌ {A = Option ℕ} None (Some n) = rw z at e in absurd cc)
+      | no z ↦ (let f : ◌≡◌ {A = Option ℕ} (Some m) (Some n) = rw (ne_eqb m 0 z) at e in (cc, λ h. z cc))
+    ]
+
+pub reached_none : (m : ℕ) → reached m ≡ None → m ≡ 0
+reached_none m e =
+    elim (ℕ_discrete m 0) [
+      | yes z ↦ z
+      | no z ↦ (let f : ◌≡◌ {A = Option ℕ} (Some m) None = rw (ne_eqb m 0 z) at e in absurd cc)
+    ]
 
 -- H10, after the test for no bytes
 pub allowed_none : (r : Regions) (v address length way : ℕ) (b : Bool) → length ≡ 0 → b ≡ true → b ≡ allowed r v address length way

@@ -1,13 +1,11 @@
 -- What the changes of a VM record keep, and what they are for: facts for the reader and for those who build on the record.
-use Rattle.std.proofs.Common.{◌≡◌, ℕ, ◌+◌, ◌%◌, ◌^◌, ◌≤◌, Bool, true, false, eqb, leb, sym, refl, ap, ◌∙◌, ne_eqb, eqb-true, le-leb}
+use Rattle.std.proofs.Common.{◌≡◌, ℕ, ◌+◌, ◌%◌, ◌^◌, ◌≤◌, Bool, true, false, eqb, leb, sym, refl, ap, ◌∙◌, ne_eqb, eqb-true, le-leb, Option, Some, None}
 use Rattle.basis.proofs.Laws.{both_left, both_right, false_true}
 use Rattle.basis.specs.Choice.{both, pick}
 use Rattle.guest.specs.Bits.{set_bit}
 use Rattle.guest.specs.Deliver.{deliver, deliver_by, due, enter, interrupt, quiet, shown}
 use Rattle.guest.specs.Record.{blank, fresh, is_blank, is_fresh, pend, with_pending, with_status}
 use Rattle.guest.specs.Write.{is_field, stored, write}
-use Rattle.guest.specs.declared.Found.TheVariants.{At, Nothing}
-use Rattle.guest.specs.declared.Found.{Found}
 use Rattle.guest.specs.declared.Status.{Status}
 use Rattle.guest.specs.declared.Vm.{Vm}
 
@@ -55,9 +53,9 @@ fresh_of v e = ap is_fresh e
 
 -- ---- delivery
 
-by_keeps : {A : Type 0} (f : Vm → A) (h : ℕ) (v : Vm) (d : Found) → ((n : ℕ) → f (interrupt n h v) ≡ f v) → f (deliver_by h v d).vm ≡ f v
-by_keeps f h v Nothing p = refl
-by_keeps f h v (At n) p = p n
+by_keeps : {A : Type 0} (f : Vm → A) (h : ℕ) (v : Vm) (d : Option ℕ) → ((n : ℕ) → f (interrupt n h v) ≡ f v) → f (deliver_by h v d).vm ≡ f v
+by_keeps f h v None p = refl
+by_keeps f h v (Some n) p = p n
 
 -- what an interrupt keeps, a delivery keeps
 pub deliver_keeps : {A : Type 0} (f : Vm → A) (h : ℕ) (v : Vm) → ((n : ℕ) → f (interrupt n h v) ≡ f v) → f (deliver h v).vm ≡ f v
@@ -82,9 +80,9 @@ deliver_left h v = deliver_keeps (λ w. w.status.left) h v (λ n. refl)
 pub deliver_running : (h : ℕ) (v : Vm) → (deliver h v).vm.status.running ≡ v.status.running
 deliver_running h v = deliver_keeps (λ w. w.status.running) h v (λ n. refl)
 
-by_number : (h : ℕ) (v : Vm) (d : Found) → (deliver_by h v d).number ≡ d
-by_number h v Nothing = refl
-by_number h v (At n) = refl
+by_number : (h : ℕ) (v : Vm) (d : Option ℕ) → (deliver_by h v d).number ≡ d
+by_number h v None = refl
+by_number h v (Some n) = refl
 
 -- D11: what is delivered is what was due
 pub deliver_number : (h : ℕ) (v : Vm) → (deliver h v).number ≡ due v.status
@@ -92,12 +90,12 @@ unfolding deliver
 deliver_number h v = by_number h v (due v.status)
 
 -- D11: nothing happens where nothing is due
-pub deliver_quiet : (h : ℕ) (v : Vm) → due v.status ≡ Nothing → deliver h v ≡ quiet v
+pub deliver_quiet : (h : ℕ) (v : Vm) → due v.status ≡ None → deliver h v ≡ quiet v
 unfolding deliver
 deliver_quiet h v e = ap (deliver_by h v) e
 
 -- D12
-pub deliver_hit : (h n : ℕ) (v : Vm) → due v.status ≡ At n → deliver h v ≡ record { vm = interrupt n h v; number = At n }
+pub deliver_hit : (h n : ℕ) (v : Vm) → due v.status ≡ Some n → deliver h v ≡ record { vm = interrupt n h v; number = Some n }
 unfolding deliver
 deliver_hit h n v e = ap (deliver_by h v) e
 

@@ -1,5 +1,5 @@
 -- The machine's operations on bits, in the terms of the definitions.
-use Rattle.std.proofs.Common.{◌≡◌, ℕ, zero, suc, ◌+◌, ◌-◌, ◌*◌, ◌/◌, ◌%◌, ◌^◌, ◌<◌, Bool, true, false, eqb, sym, refl, ap, ◌∙◌, mod-lt, arith, pow-add, shl_exact, eqb-true}
+use Rattle.std.proofs.Common.{◌≡◌, ℕ, zero, suc, ◌+◌, ◌-◌, ◌*◌, ◌/◌, ◌%◌, ◌^◌, ◌<◌, Bool, true, false, eqb, sym, refl, ap, ◌∙◌, mod-lt, arith, pow-add, shl_exact, eqb-true, Option, Some, None}
 use borrow.Author.Tests.{eqb-false}
 use lib.Bits.{and_high, and_mod, and_shr, bit_and, bit_or, or_add_and}
 use native.Mathlib.Decide.{dec_lt}
@@ -9,8 +9,6 @@ use Rattle.basis.specs.Choice.{both, pick}
 use Rattle.guest.specs.Bits.{clear_bit, highest, set_bit}
 use Rattle.guest.specs.Deliver.{deliver, due, interrupt, quiet}
 use Rattle.guest.specs.declared.Delivery.{Delivery}
-use Rattle.guest.specs.declared.Found.TheVariants.{At, Nothing}
-use Rattle.guest.specs.declared.Found.{Found}
 use Rattle.guest.specs.declared.Status.{Status}
 use Rattle.guest.specs.declared.Vm.{Vm}
 
@@ -71,18 +69,18 @@ power_is n l = shl_exact {a = 1} 1 n 32 (omega arith) (omega arith) ∙ omega ar
 -- ---- the highest
 
 module _ (p : ℕ → Bool) where
-  pub highest_none : (n : ℕ) → ((k : ℕ) → k < n → p k ≡ false) → highest p n ≡ Nothing
+  pub highest_none : (n : ℕ) → ((k : ℕ) → k < n → p k ≡ false) → highest p n ≡ None
   unfolding highest
   highest_none zero h = refl
   highest_none (suc n) h = rw (h n (omega arith)) (highest_none n (λ k l. h k (omega arith)))
 
   -- what the answer tells
-  pub none_is : (n : ℕ) → highest p n ≡ Nothing → (k : ℕ) → k < n → p k ≡ false
+  pub none_is : (n : ℕ) → highest p n ≡ None → (k : ℕ) → k < n → p k ≡ false
   unfolding highest
   none_is zero e k l = absurd (omega arith)
   none_is (suc n) e k l = go (p n) refl e (λ f. none_is n f k)
     where
-      go : (b : Bool) → p n ≡ b → pick b (At n) (highest p n) ≡ Nothing → (highest p n ≡ Nothing → k < n → p k ≡ false) → p k ≡ false
+      go : (b : Bool) → p n ≡ b → pick b (Some n) (highest p n) ≡ None → (highest p n ≡ None → k < n → p k ≡ false) → p k ≡ false
       go true f g h = let z : ◌≡◌ {A = ℕ} 0 1 = cc in absurd (omega arith)
       go false f g h =
           elim (dec_lt k n) [
@@ -90,13 +88,13 @@ module _ (p : ℕ → Bool) where
             | no i ↦ (let q : k ≡ n = omega arith in rw q f)
           ]
 
-  pub at_is : (n j : ℕ) → highest p n ≡ At j → (j < n) × (p j ≡ true) × ((k : ℕ) → j < k → k < n → p k ≡ false)
+  pub at_is : (n j : ℕ) → highest p n ≡ Some j → (j < n) × (p j ≡ true) × ((k : ℕ) → j < k → k < n → p k ≡ false)
   unfolding highest
   at_is zero j e = let z : ◌≡◌ {A = ℕ} 0 1 = cc in absurd (omega arith)
   at_is (suc n) j e = go (p n) refl e (at_is n j)
     where
-      go : (b : Bool) → p n ≡ b → pick b (At n) (highest p n) ≡ At j
-          → (highest p n ≡ At j → (j < n) × (p j ≡ true) × ((k : ℕ) → j < k → k < n → p k ≡ false))
+      go : (b : Bool) → p n ≡ b → pick b (Some n) (highest p n) ≡ Some j
+          → (highest p n ≡ Some j → (j < n) × (p j ≡ true) × ((k : ℕ) → j < k → k < n → p k ≡ false))
           → (j < suc n) × (p j ≡ true) × ((k : ℕ) → j < k → k < suc n → p k ≡ false)
       go true f g h = let q : n ≡ j = cc in (omega (arith, q), rw (← q) f, λ k a b. absurd (omega (arith, q)))
       go false f g h =
@@ -117,33 +115,33 @@ abbrev pub in_both : Status → ℕ → Bool
 in_both s n = both (bit n s.pending) (bit n s.enabled)
 
 -- D11: the number is below 32, pending and enabled, and no higher one is
-pub due_is : (s : Status) (n : ℕ) → due s ≡ At n → (n < 32) × (in_both s n ≡ true) × ((k : ℕ) → n < k → k < 32 → in_both s k ≡ false)
+pub due_is : (s : Status) (n : ℕ) → due s ≡ Some n → (n < 32) × (in_both s n ≡ true) × ((k : ℕ) → n < k → k < 32 → in_both s k ≡ false)
 unfolding due
 due_is s n e = at_is _ 32 n e
 
 -- D11: none is
-pub due_nothing : (s : Status) → due s ≡ Nothing → (k : ℕ) → k < 32 → in_both s k ≡ false
+pub due_nothing : (s : Status) → due s ≡ None → (k : ℕ) → k < 32 → in_both s k ≡ false
 unfolding due
 due_nothing s e = none_is _ 32 e
 
-pub due_none : (s : Status) → bit_and s.pending s.enabled ≡ 0 → Nothing ≡ due s
+pub due_none : (s : Status) → bit_and s.pending s.enabled ≡ 0 → None ≡ due s
 unfolding due
 due_none s e = sym (highest_none _ 32 (λ k l. sym (bit_and_lem k s.pending s.enabled) ∙ ap (bit k) e ∙ bit_zero k))
 
-pub due_few : (s : Status) (n : ℕ) → At n ≡ due s → n < 32
+pub due_few : (s : Status) (n : ℕ) → Some n ≡ due s → n < 32
 due_few s n e = (due_is s n (sym e)).0
 
 -- ---- the search (D11): a walk from 31 down; p and e are what the code found in the fields at n, where the walk stands
 
 -- the highest of 0 to n that is set in both
-pub due_to : Status → ℕ → Found
+pub due_to : Status → ℕ → Option ℕ
 due_to s n = highest (in_both s) (suc n)
 
 pub walk_starts : (s : Status) → due s ≡ due_to s 31
 unfolding due due_to
 walk_starts s = refl
 
-pub walk_hits : (s : Status) (n : ℕ) (p e : Bool) → due s ≡ due_to s n → p ≡ bit n s.pending → e ≡ bit n s.enabled → p ≡ true → e ≡ true → At n ≡ due s
+pub walk_hits : (s : Status) (n : ℕ) (p e : Bool) → due s ≡ due_to s n → p ≡ bit n s.pending → e ≡ bit n s.enabled → p ≡ true → e ≡ true → Some n ≡ due s
 unfolding due_to highest
 walk_hits s n p e w f g i j = rw (w, ← f, ← g, i, j)
 
@@ -159,14 +157,14 @@ unfolding due_to highest
 walk_goes s zero e f z = absurd (z refl)
 walk_goes s (suc n) e f z = let q : suc n - 1 ≡ n = omega arith in rw (e, f, q)
 
-pub walk_ends : (s : Status) (n : ℕ) → due s ≡ due_to s n → in_both s n ≡ false → n ≡ 0 → Nothing ≡ due s
+pub walk_ends : (s : Status) (n : ℕ) → due s ≡ due_to s n → in_both s n ≡ false → n ≡ 0 → None ≡ due s
 unfolding due_to highest
 walk_ends s zero e f z = rw (e, f)
 walk_ends s (suc n) e f z = absurd (omega arith)
 
 -- ---- a delivery by what the code found
 
-pub deliver_none : (h : ℕ) (v : Vm) (f : Found) → f ≡ due v.status → f ≡ Nothing → quiet v ≡ deliver h v
+pub deliver_none : (h : ℕ) (v : Vm) (f : Option ℕ) → f ≡ due v.status → f ≡ None → quiet v ≡ deliver h v
 unfolding deliver
 deliver_none h v f e g = rw (← e, g)
 
@@ -175,7 +173,7 @@ pub deliver_quietly : (h : ℕ) (v : Vm) → bit_and v.status.pending v.status.e
 unfolding deliver
 deliver_quietly h v e = rw (← due_none v.status e)
 
-pub deliver_at : (h n : ℕ) (v w : Vm) (f : Found) → f ≡ due v.status → f ≡ At n → w ≡ interrupt n h v
-    → ◌≡◌ {A = Delivery} (record { vm = w; number = At n }) (deliver h v)
+pub deliver_at : (h n : ℕ) (v w : Vm) (f : Option ℕ) → f ≡ due v.status → f ≡ Some n → w ≡ interrupt n h v
+    → ◌≡◌ {A = Delivery} (record { vm = w; number = Some n }) (deliver h v)
 unfolding deliver
 deliver_at h n v w f e g i = rw (← e, g, i)

@@ -17,20 +17,14 @@ use Rattle.guest.proofs.Vm.is_fresh.Kinds as is-fresh-kinds
 use Rattle.guest.proofs.Vm.is_fresh.Reads as is-fresh-reads
 use Rattle.guest.proofs.Vm.is_ready.Kinds as is-ready-kinds
 use Rattle.guest.proofs.Vm.is_ready.Reads as is-ready-reads
-use Rattle.guest.proofs.Vm.older_if.Kinds as older-if-kinds
-use Rattle.guest.proofs.Vm.older_if.Reads as older-if-reads
-use Rattle.guest.proofs.Vm.or_fresh.Kinds as or-fresh-kinds
-use Rattle.guest.proofs.Vm.or_fresh.Reads as or-fresh-reads
-use Rattle.guest.proofs.Vm.or_kept.Kinds as or-kept-kinds
-use Rattle.guest.proofs.Vm.or_kept.Reads as or-kept-reads
+use Rattle.guest.proofs.Vm.older.Kinds as older-kinds
+use Rattle.guest.proofs.Vm.older.Reads as older-reads
 use Rattle.guest.proofs.Vm.pended.Kinds as pended-kinds
 use Rattle.guest.proofs.Vm.pended.Reads as pended-reads
 use Rattle.guest.proofs.Vm.returned.Kinds as returned-kinds
 use Rattle.guest.proofs.Vm.returned.Reads as returned-reads
 use Rattle.guest.proofs.Vm.saved.Kinds as saved-kinds
 use Rattle.guest.proofs.Vm.saved.Reads as saved-reads
-use Rattle.guest.proofs.Vm.saved_if.Kinds as saved-if-kinds
-use Rattle.guest.proofs.Vm.saved_if.Reads as saved-if-reads
 use Rattle.guest.proofs.Vm.started.Kinds as started-kinds
 use Rattle.guest.proofs.Vm.started.Reads as started-reads
 use Rattle.guest.proofs.Vm.written.Kinds as written-kinds
@@ -51,11 +45,8 @@ guest_is_fresh_one κs a x y s t p q = p ∙ sym q
 pub guest_saved_one : OneAnswer 0 saved-kinds.ps saved-kinds.r saved-reads.Post
 guest_saved_one κs a x y s t p q = p ∙ sym q
 
-pub guest_saved_if_one : OneAnswer 0 saved-if-kinds.ps saved-if-kinds.r saved-if-reads.Post
-guest_saved_if_one κs a x y s t p q = p ∙ sym q
-
-pub guest_older_if_one : OneAnswer 0 older-if-kinds.ps older-if-kinds.r older-if-reads.Post
-guest_older_if_one κs a x y s t p q = p ∙ sym q
+pub guest_older_one : OneAnswer 0 older-kinds.ps older-kinds.r older-reads.Post
+guest_older_one κs a x y s t p q = p ∙ sym q
 
 pub guest_ended_one : OneAnswer 0 ended-kinds.ps ended-kinds.r ended-reads.Post
 guest_ended_one κs a x y s t p q = p ∙ sym q
@@ -80,9 +71,3 @@ guest_written_one κs a x y s t p q = p ∙ sym q
 
 pub guest_is_field_one : OneAnswer 0 is-field-kinds.ps is-field-kinds.r is-field-reads.Post
 guest_is_field_one κs a x y s t p q = p ∙ sym q
-
-pub guest_or_fresh_one : OneAnswer 0 or-fresh-kinds.ps or-fresh-kinds.r or-fresh-reads.Post
-guest_or_fresh_one κs a x y s t p q = p ∙ sym q
-
-pub guest_or_kept_one : OneAnswer 0 or-kept-kinds.ps or-kept-kinds.r or-kept-reads.Post
-guest_or_kept_one κs a x y s t p q = p ∙ sym q

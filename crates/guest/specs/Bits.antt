@@ -1,9 +1,7 @@
 -- Numbers as sets of pseudo-interrupts: bit n, of value 2 ^ n, stands for number n (F3, F4, F7, F9).
-use Rattle.std.specs.Prelude.{ℕ, zero, suc, ◌+◌, ◌-◌, ◌^◌, Bool}
+use Rattle.std.specs.Prelude.{ℕ, zero, suc, ◌+◌, ◌-◌, ◌^◌, Bool, Option, Some, None}
 use Rattle.basis.specs.Bits.{bit}
 use Rattle.basis.specs.Choice.{pick}
-use Rattle.guest.specs.declared.Found.TheVariants.{At, Nothing}
-use Rattle.guest.specs.declared.Found.{Found}
 
 -- x with n in it
 unfoldable pub set_bit : ℕ → ℕ → ℕ
@@ -14,6 +12,6 @@ unfoldable pub clear_bit : ℕ → ℕ → ℕ
 clear_bit n x = pick (bit n x) (x - 2 ^ n) x
 
 -- the highest number below n of which p holds
-unfoldable pub highest : (ℕ → Bool) → ℕ → Found
-highest p zero = Nothing
-highest p (suc n) = pick (p n) (At n) (highest p n)
+unfoldable pub highest : (ℕ → Bool) → ℕ → Option ℕ
+highest p zero = None
+highest p (suc n) = pick (p n) (Some n) (highest p n)

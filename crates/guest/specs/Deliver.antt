@@ -1,16 +1,14 @@
 -- Delivery of a pseudo-interrupt (D11, D12), the entry into a tick (D8, D9) and the return (D26).
-use Rattle.std.specs.Prelude.{ℕ, ◌+◌, ◌%◌, ◌^◌, bit_or}
+use Rattle.std.specs.Prelude.{ℕ, ◌+◌, ◌%◌, ◌^◌, bit_or, Option, Some, None}
 use Rattle.basis.specs.Bits.{bit}
 use Rattle.basis.specs.Choice.{both}
 use Rattle.guest.specs.Bits.{clear_bit, highest}
 use Rattle.guest.specs.declared.Delivery.{Delivery}
-use Rattle.guest.specs.declared.Found.TheVariants.{At, Nothing}
-use Rattle.guest.specs.declared.Found.{Found}
 use Rattle.guest.specs.declared.Status.{Status}
 use Rattle.guest.specs.declared.Vm.{Vm}
 
 -- D11: the highest number that is pending (F4) and enabled (F3)
-unfoldable pub due : Status → Found
+unfoldable pub due : Status → Option ℕ
 due s = highest (λ n. both (bit n s.pending) (bit n s.enabled)) 32
 
 -- D12, the fields (F3 to F7): n is the reason, the others stay pending, all are disabled
@@ -36,12 +34,12 @@ interrupt n handler v =
 
 -- D11: nothing is delivered
 abbrev pub quiet : Vm → Delivery
-quiet v = record { vm = v; number = Nothing }
+quiet v = record { vm = v; number = None }
 
 -- D11, D12, by what is due
-abbrev pub deliver_by : ℕ → Vm → Found → Delivery
-deliver_by handler v Nothing = quiet v
-deliver_by handler v (At n) = record { vm = interrupt n handler v; number = At n }
+abbrev pub deliver_by : ℕ → Vm → Option ℕ → Delivery
+deliver_by handler v None = quiet v
+deliver_by handler v (Some n) = record { vm = interrupt n handler v; number = Some n }
 
 -- D11 and D12
 unfoldable pub deliver : ℕ → Vm → Delivery

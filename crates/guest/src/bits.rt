@@ -4,23 +4,21 @@ ghost use Rattle.basis.specs.Bits.{bit};
 ghost use Rattle.guest.specs.Bits.{clear_bit, set_bit};
 ghost use Rattle.guest.specs.Deliver.{due};
 
-use crate::{Found, Status};
+use crate::Status;
 
-// D11, K7: from 31 down to 0, the first that is set in both fields, or none.
-pub fn due(status: Status) -> Found
+// D11, K7: from 31 down to 0, the first that is set in both fields, or none. K7 fixes this form: a loop that yields by `break`.
+pub fn due(status: Status) -> Option<u8>
     ensures { result ≡ due status }
 {
     let mut n: u8 = 31;
     loop {
-        if has_bit(status.pending, n) {
-            if has_bit(status.enabled, n) {
-                break Found::At(n);
-            }
+        if has_bit(status.pending, n) && has_bit(status.enabled, n) {
+            break Some(n);
         }
         if n == 0 {
-            break Found::Nothing;
+            break None;
         }
-        n = n - 1;
+        n -= 1;
     }
 }
 
@@ -39,18 +37,18 @@ fn power(n: u8) -> u32
     1 << n
 }
 
+#[tactic(auto, using(crate::proofs::Laws::or_sets))]
 pub fn with_bit(x: u32, n: u8) -> u32
     requires { n < 32 }
     ensures { result ≡ set_bit n x }
 {
-    let p = power(n);
-    x | p
+    x | power(n)
 }
 
+#[tactic(auto, using(crate::proofs::Laws::sub_clears))]
 pub fn without_bit(x: u32, n: u8) -> u32
     requires { n < 32 }
     ensures { result ≡ clear_bit n x }
 {
-    let p = power(n);
-    x - (x & p)
+    x - (x & power(n))
 }

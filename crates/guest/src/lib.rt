@@ -6,21 +6,12 @@ mod bits;
 ghost use Rattle.std.specs.Prelude.{◌≡◌, ◌<◌};
 ghost use Rattle.basis.specs.Choice.{pick};
 ghost use Rattle.guest.specs.Deliver.{back_from, deliver, enter, interrupt, quiet, shown};
-ghost use Rattle.guest.specs.Record.{blank, ended_as, fresh, is_fresh, is_ready, older, pend, saved_at, started_at};
+ghost use Rattle.guest.specs.Record.{ended_as, fresh, is_fresh, is_ready, older, pend, saved_at, started_at};
 ghost use Rattle.guest.specs.Write.{is_field, stored, write};
-
-use basis::tests::both;
-
-// A pseudo-interrupt's number, 0 among them, or none (A3).
-#[derive(Clone, Copy)]
-pub enum Found {
-    Nothing,
-    At(u8),
-}
 
 // The ten status fields. The VM reads them, and writes them by the offsets of F1 to F10.
 #[repr(C)]
-#[derive(Clone, Copy)]
+#[derive(Clone, Copy, Default)]
 pub struct Status {
     pub since: u32, // F1, ticksSinceStart
     pub left: u32, // F2, ticksLeftInTimeslice
@@ -36,7 +27,7 @@ pub struct Status {
 
 // A VM record (T2): all that the core knows of a VM (G2).
 #[repr(C)]
-#[derive(Clone, Copy)]
+#[derive(Clone, Copy, Default)]
 pub struct Vm {
     pub standing: u8, // NONE, or one of the four of T3
     pub address: u32, // where the VM goes on when it next runs
@@ -45,15 +36,16 @@ pub struct Vm {
     pub ran: u32, // those of them in which it ran (T4)
 }
 
-// A VM after a delivery, and what was delivered.
+// A VM after a delivery, and the number of the pseudo-interrupt that was delivered, if one was (A3).
 #[derive(Clone, Copy)]
 pub struct Delivery {
     pub vm: Vm,
-    pub number: Found,
+    pub number: Option<u8>,
 }
 
 impl Vm {
-    // The standings (T3); NONE is that of a VM that was never started.
+    // The standings (T3); NONE is that of a VM that was never started. They are numbers, as the C interface has them and as a host may
+    // hold any byte in their place (W12).
     pub const NONE: u8 = 0;
 
     pub const READY: u8 = 1;
@@ -74,13 +66,7 @@ impl Vm {
     pub fn fresh() -> Vm
         ensures { result ≡ fresh }
     {
-        Vm {
-            standing: Vm::NONE,
-            address: 0,
-            status: blank(),
-            age: 0,
-            ran: 0,
-        }
+        Vm::default()
     }
 
     // A VM as Start and Restart make it (D1).
@@ -90,9 +76,7 @@ impl Vm {
         Vm {
             standing: Vm::READY,
             address: entry,
-            status: blank(),
-            age: 0,
-            ran: 0,
+            ..Vm::default()
         }
     }
 
@@ -104,6 +88,7 @@ impl Vm {
     }
 
     // W2, of one record: its numbers joined as bits, in the reverse of the definition's order.
+    #[tactic(auto, using(basis::proofs::Laws::or_none, basis::proofs::Laws::both_assoc), unfolding(crate::specs::Record::is_fresh, crate::specs::Record::is_blank))]
     pub fn is_fresh(self) -> bool
         ensures { result ≡ is_fresh self }
     {
@@ -117,80 +102,69 @@ impl Vm {
     pub fn saved(self, at: u32) -> Vm
         ensures { result ≡ saved_at at self }
     {
-        let mut v = self;
-        v.address = at;
-        v
+        Vm {
+            address: at,
+            ..self
+        }
     }
 
-    pub fn saved_if(self, on: bool, at: u32) -> Vm
-        ensures { result ≡ pick on (saved_at at self) self }
-    {
-        if on { self.saved(at) } else { self }
-    }
-
-    // D4, of one VM.
-    pub fn older_if(self, on: bool) -> Vm
-        ensures { result ≡ pick on (older self) self }
-    {
-        if on { self.older() } else { self }
-    }
-
-    // D4, by a wrapping add (K4).
-    fn older(self) -> Vm
+    // D4, of one VM, by a wrapping add (K4).
+    pub fn older(self) -> Vm
         ensures { result ≡ older self }
     {
-        let mut v = self;
-        v.age = std::num::wrapping_add_u32(self.age, 1);
-        v
+        Vm {
+            age: self.age.wrapping_add(1),
+            ..self
+        }
     }
 
     // D14, D16.
     pub fn ended(self, standing: u8) -> Vm
         ensures { result ≡ ended_as standing self }
     {
-        let mut v = self;
-        v.standing = standing;
-        v
+        Vm { standing, ..self }
     }
 
     // D17, D27.
+    #[tactic(auto, using(basis::proofs::Laws::ways), unfolding(crate::specs::Record::pend))]
     pub fn pended(self, n: u8) -> Vm
         ensures { result ≡ pend n self }
     {
         if 31 < n {
             return self;
         }
-        let mut s = self.status;
-        s.pending = bits::with_bit(s.pending, n);
-        let mut v = self;
-        v.status = s;
-        v
+        Vm {
+            status: Status {
+                pending: bits::with_bit(self.status.pending, n),
+                ..self.status
+            },
+            ..self
+        }
+    }
+
+    // D11: nothing is delivered.
+    fn quiet(self) -> Delivery
+        ensures { result ≡ quiet self }
+    {
+        Delivery {
+            vm: self,
+            number: None,
+        }
     }
 
     // D11, D12. Mostly the fields share no number, and then no walk is made.
     pub fn delivered(self, handler: u32) -> Delivery
         ensures { result ≡ deliver handler self }
     {
-        let s = self.status;
-        if s.pending & s.enabled == 0 {
-            return Delivery {
-                vm: self,
-                number: Found::Nothing,
-            };
+        if self.status.pending & self.status.enabled == 0 {
+            return self.quiet();
         }
-        let found = bits::due(s);
-        match found {
-            Found::Nothing => Delivery {
-                vm: self,
-                number: Found::Nothing,
+        match bits::due(self.status) {
+            None => self.quiet(),
+            Some(n) => Delivery {
+                vm: self.interrupted(n, handler),
+                number: Some(n),
             },
-            Found::At(n) => {
-                let vm = self.interrupted(n, handler);
-                Delivery {
-                    vm: vm,
-                    number: found,
-                }
-            }
         }
     }
 
@@ -199,35 +173,43 @@ impl Vm {
         requires { n < 32 }
         ensures { result ≡ interrupt n handler self }
     {
-        let mut s = self.status;
-        s.previous = s.enabled;
-        s.enabled = 0;
-        s.pending = bits::without_bit(s.pending, n);
-        s.resume = self.address;
-        s.reason = n as u32;
-        let mut v = self;
-        v.address = handler;
-        v.status = s;
-        v
+        let s = self.status;
+        Vm {
+            address: handler,
+            status: Status {
+                enabled: 0,
+                pending: bits::without_bit(s.pending, n),
+                resume: self.address,
+                reason: n as u32,
+                previous: s.enabled,
+                ..s
+            },
+            ..self
+        }
     }
 
     // D8, by a wrapping add (K4). The fields show the core's own numbers: what the VM wrote there counts for nothing.
+    #[tactic(auto, unfolding(crate::specs::Deliver::shown))]
     fn shown(self, left: u32) -> Vm
         ensures { result ≡ shown left self }
     {
-        let ran = std::num::wrapping_add_u32(self.ran, 1);
-        let mut s = self.status;
-        s.since = self.age;
-        s.left = left;
-        s.running = ran;
-        s.pending = s.pending | s.ontick;
-        let mut v = self;
-        v.ran = ran;
-        v.status = s;
-        v
+        let s = self.status;
+        let ran = self.ran.wrapping_add(1);
+        Vm {
+            status: Status {
+                since: self.age,
+                left,
+                pending: s.pending | s.ontick,
+                running: ran,
+                ..s
+            },
+            ran,
+            ..self
+        }
     }
 
     // D8 and D9, for the VM that a tick runs.
+    #[tactic(auto, unfolding(crate::specs::Deliver::enter))]
     pub fn entered(self, left: u32, handler: u32) -> Delivery
         ensures { result ≡ enter left handler self }
     {
@@ -240,10 +222,7 @@ impl Vm {
         if on {
             self.entered(left, handler)
         } else {
-            Delivery {
-                vm: self,
-                number: Found::Nothing,
-            }
+            self.quiet()
         }
     }
 
@@ -251,83 +230,58 @@ impl Vm {
     pub fn returned(self) -> Vm
         ensures { result ≡ back_from self }
     {
-        let mut s = self.status;
-        s.enabled = s.previous;
-        let mut v = self;
-        v.address = s.resume;
-        v.status = s;
-        v
+        let s = self.status;
+        Vm {
+            address: s.resume,
+            status: Status {
+                enabled: s.previous,
+                ..s
+            },
+            ..self
+        }
     }
 
     // D21, F1 to F10.
+    #[tactic(auto, unfolding(crate::specs::Write::write))]
     pub fn written(self, offset: u8, value: u32) -> Vm
         ensures { result ≡ write offset value self }
     {
-        let s = stored(offset, value, self.status);
-        let mut v = self;
-        v.status = s;
-        v
+        Vm {
+            status: self.status.stored(offset, value),
+            ..self
+        }
     }
 
     // F1 to F10.
+    #[tactic(auto, unfolding(crate::specs::Write::is_field))]
     pub fn is_field(offset: u8) -> bool
         ensures { result ≡ is_field offset }
     {
-        both(offset % 4 == 0, offset <= 36)
+        offset % 4 == 0 && offset <= 36
     }
+}
 
-    // Itself, or the fresh record.
-    pub fn or_fresh(self, on: bool) -> Vm
-        ensures { result ≡ pick on self fresh }
+impl Status {
+    // D21, the fields, by their offsets.
+    #[tactic(auto, unfolding(crate::specs::Write::stored))]
+    fn stored(self, offset: u8, x: u32) -> Status
+        ensures { result ≡ stored offset x self }
     {
-        if on { self } else { Vm::fresh() }
-    }
-
-    // Itself, or the record that stood there.
-    pub fn or_kept(self, on: bool, old: Vm) -> Vm
-        ensures { result ≡ pick on self old }
-    {
-        if on { self } else { old }
-    }
-}
-
-fn blank() -> Status
-    ensures { result ≡ blank }
-{
-    Status {
-        since: 0,
-        left: 0,
-        enabled: 0,
-        pending: 0,
-        resume: 0,
-        reason: 0,
-        previous: 0,
-        restore: 0,
-        ontick: 0,
-        running: 0,
-    }
-}
-
-fn choice(on: bool, x: u32, y: u32) -> u32
-    ensures { result ≡ pick on x y }
-{
-    if on { x } else { y }
-}
-
-// D21, the fields.
-fn stored(offset: u8, x: u32, s: Status) -> Status
-    ensures { result ≡ stored offset x s }
-{
-    Status {
-        since: choice(offset == 0, x, s.since),
-        left: choice(offset == 4, x, s.left),
-        enabled: choice(offset == 8, x, s.enabled),
-        pending: choice(offset == 12, x, s.pending),
-        resume: choice(offset == 16, x, s.resume),
-        reason: choice(offset == 20, x, s.reason),
-        previous: choice(offset == 24, x, s.previous),
-        restore: choice(offset == 28, x, s.restore),
-        ontick: choice(offset == 32, x, s.ontick),
-        running: choice(offset == 36, x, s.running),
+        match offset {
+            0 => Status { since: x, ..self },
+            4 => Status { left: x, ..self },
+            8 => Status { enabled: x, ..self },
+            12 => Status { pending: x, ..self },
+            16 => Status { resume: x, ..self },
+            20 => Status { reason: x, ..self },
+            24 => Status {
+                previous: x,
+                ..self
+            },
+            28 => Status { restore: x, ..self },
+            32 => Status { ontick: x, ..self },
+            36 => Status { running: x, ..self },
+            _ => self,
+        }
     }
 }

@@ -27,7 +27,7 @@ use Rattle.image_reader.proofs.RegionTurns.{Passed, region_passed, regions_bad, 
 use Rattle.image_reader.proofs.Turns.{core_passed, image_bad, image_goes, slot_passed, slots_bad, slots_ends, slots_goes, vm_passed, vms_bad, vms_goes}
 use Rattle.image_reader.specs.Reader.{accepted, begun, read_end, read_image, read_regions, read_slots, read_vms, refused, with_regions, with_slot, with_vm}
 use Rattle.image_reader.specs.Records.{core_fault, owner_fault, region_fault, slot_fault, vm_fault}
-use Rattle.image_reader.specs.declared.Reading.{Reading}
+use Rattle.image_reader.specs.Reading.{Reading}
 use Rattle.image_writer.specs.Writer.{image, region_bytes, slot_bytes, vm_bytes}
 use Rattle.regions.proofs.Steps.{Next, next_all}
 use Rattle.regions.proofs.Taken.{next_taken}
@@ -37,7 +37,6 @@ use Rattle.regions.specs.Rules.{Lawful, holder_at, last_at, none, permission_at,
 use Rattle.regions.specs.declared.Regions.{Regions}
 
 fault_none : (f at : ℕ) (c : Config) → refused f at ≡ accepted c → f ≡ 0
-unfolding refused
 fault_none f at c e = ap (λ (r : Reading). r.fault) e
 
 -- a slot without fault keeps S4 and S5

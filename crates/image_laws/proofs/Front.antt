@@ -15,7 +15,7 @@ use Rattle.config.specs.declared.Config.{Config}
 use Rattle.image_reader.proofs.Turns.{core_passed}
 use Rattle.image_reader.specs.Reader.{begun, onward, read_end, read_image, read_regions, read_slots, read_vms, with_regions, with_slot, with_vm}
 use Rattle.image_reader.specs.Records.{core_fault, kind_is, region_fault, short, slot_fault, vm_fault}
-use Rattle.image_reader.specs.declared.Reading.{Reading}
+use Rattle.image_reader.specs.Reading.{Reading}
 use Rattle.regions.specs.Beside.{with_region}
 use Rattle.regions.specs.Rules.{none}
 use Rattle.regions.specs.declared.Regions.{Regions}

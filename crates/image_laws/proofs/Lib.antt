@@ -6,4 +6,5 @@ pub mod Front
 pub mod Theorems
 pub mod Values
 pub mod Vectors
+pub mod Refusals
 pub mod Unique

@@ -18,7 +18,7 @@ use Rattle.image_laws.proofs.Front.{image_front}
 use Rattle.image_laws.proofs.Trip.{trip}
 use Rattle.image_reader.proofs.Answers.{answer_accepted, answer_refused}
 use Rattle.image_reader.specs.Reader.{accepted, no_config, read_image}
-use Rattle.image_reader.specs.declared.Reading.{Reading}
+use Rattle.image_reader.specs.Reading.{Reading}
 use Rattle.image_writer.proofs.Puts.{image_length}
 use Rattle.image_writer.specs.Writer.{answer_for, buffer_after, image, unwritten}
 

@@ -1,5 +1,5 @@
 -- What both round trips through the code give.
-use Prim.Native.Nat.{ℕ}
+use Prim.Native.Nat.{ℕ, ◌≤◌}
 use borrow.Author.Tests.{eq-eqb, ne_eqb}
 use lib.Dec.{ltb}
 use lib.ListN.{drop, length, length-append, take}
@@ -16,9 +16,9 @@ use Rattle.config.specs.declared.Config.{Config}
 use Rattle.image_laws.proofs.Theorems.{image_read, read_image_lem, read_legal, read_whole}
 use Rattle.image_laws.specs.Trips.{copy_answer, copy_buffer, returned}
 use Rattle.image_reader.specs.Reader.{accepted, read_image, refused}
-use Rattle.image_reader.specs.declared.Reading.{Reading}
+use Rattle.image_reader.specs.Reading.{Reading}
 use Rattle.image_writer.specs.Writer.{answer_for, buffer_after, image, unwritten}
-use Rattle.image_writer.specs.declared.Written.{Written}
+use Rattle.image_writer.specs.Written.{Written}
 
 -- an image that is read and written again
 pub copy_bad : (s b : List ℕ) (r : Reading) → r ≡ read_image s → (r.fault ≡ 0 → ⊥) → (unwritten r.fault ≡ copy_answer s (length b)) × (b ≡ copy_buffer s b)
@@ -50,11 +50,14 @@ buffer_is : (c : Config) (b b' : List ℕ) (w : Written) → w ≡ answer_for c 
 unfolding buffer_after
 buffer_is c b b' w e h f = let i = written_is c (length b) w e h in rw (i.0, i.1) at f
 
-pub size_taken : (c : Config) (b b' : List ℕ) (w : Written) → w ≡ answer_for c (length b) → w.refusal ≡ 0 → b' ≡ buffer_after c b → w.size ≡ length (take w.size b')
-size_taken c b b' w e h f =
+pub size_in : (c : Config) (b b' : List ℕ) (w : Written) → w ≡ answer_for c (length b) → w.refusal ≡ 0 → b' ≡ buffer_after c b → w.size ≤ length b'
+size_in c b b' w e h f =
     let i = written_is c (length b) w e h in
     let j = buffer_is c b b' w e h f in
-    sym (length-take-le w.size b' (rw j (omega (arith, i.2, length-append (image c) (drop (length (image c)) b)))))
+    rw j (omega (arith, i.2, length-append (image c) (drop (length (image c)) b)))
+
+pub size_taken : (c : Config) (b b' : List ℕ) (w : Written) → w ≡ answer_for c (length b) → w.refusal ≡ 0 → b' ≡ buffer_after c b → w.size ≡ length (take w.size b')
+size_taken c b b' w e h f = sym (length-take-le w.size b' (size_in c b b' w e h f))
 
 pub return_bad : (c : Config) (n : ℕ) (w : Written) (r : Reading) → w ≡ answer_for c n → (w.refusal ≡ 0 → ⊥) → r ≡ refused w.refusal 0 → r ≡ returned c n
 unfolding answer_for returned
@@ -66,11 +69,17 @@ return_bad c n w r e h f = go (legal c) (ltb n (length (image c))) e
     go true false z = absurd (h (ap (λ (v : Written). v.refusal) z))
     go false y z = f ∙ ap (λ (v : Written). refused v.refusal 0) z
 
+-- what was written is read as what it was written from
+pub return_read : (c : Config) (b b' : List ℕ) (w : Written) → Typed c → w ≡ answer_for c (length b) → w.refusal ≡ 0 → b' ≡ buffer_after c b → read_image (take w.size b') ≡ accepted c
+return_read c b b' w t e h f =
+    let i = written_is c (length b) w e h in
+    let j = buffer_is c b b' w e h f in
+    let k : take w.size b' ≡ image c = ap (take w.size) j ∙ take_at (image c) (drop (length (image c)) b) w.size (sym i.2) in
+    ap read_image k ∙ image_read c t i.0
+
 pub return_good : (c : Config) (b b' : List ℕ) (w : Written) (r : Reading) → Typed c → w ≡ answer_for c (length b) → w.refusal ≡ 0 → b' ≡ buffer_after c b → r ≡ read_image (take w.size b')
     → r ≡ returned c (length b)
 unfolding returned
 return_good c b b' w r t e h f g =
     let i = written_is c (length b) w e h in
-    let j = buffer_is c b b' w e h f in
-    let k : take w.size b' ≡ image c = ap (take w.size) j ∙ take_at (image c) (drop (length (image c)) b) w.size (sym i.2) in
-    rw (i.0, i.1) (g ∙ ap read_image k ∙ image_read c t i.0)
+    rw (i.0, i.1) (g ∙ return_read c b b' w t e h f)

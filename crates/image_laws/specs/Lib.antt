@@ -1,3 +1,4 @@
 pub mod Trips
 pub mod Vectors
 pub mod RegionVectors
+pub mod Returned

@@ -4,9 +4,9 @@ use Rattle.basis.specs.Choice.{pick}
 use Rattle.config.specs.Sizes.{legal}
 use Rattle.config.specs.declared.Config.{Config}
 use Rattle.image_reader.specs.Reader.{accepted, read_image, refused}
-use Rattle.image_reader.specs.declared.Reading.{Reading}
+use Rattle.image_reader.specs.Reading.{Reading}
 use Rattle.image_writer.specs.Writer.{image, unwritten}
-use Rattle.image_writer.specs.declared.Written.{Written}
+use Rattle.image_writer.specs.Written.{Written}
 
 -- C6: an image that is read and written again: its own bytes, or its fault
 unfoldable pub copy_answer : List ℕ → ℕ → Written

@@ -3,7 +3,7 @@ use Rattle.std.specs.Prelude.{ℕ, ◌%◌, ◌+◌, replicate, take, List, [], 
 use Rattle.basis.specs.Count.{joined}
 use Rattle.config.specs.declared.Config.{Config}
 use Rattle.image_reader.specs.Reader.{accepted, refused}
-use Rattle.image_reader.specs.declared.Reading.{Reading}
+use Rattle.image_reader.specs.Reading.{Reading}
 use Rattle.regions.specs.Rules.{none}
 
 -- an image and its answer

@@ -13,7 +13,7 @@ use Rattle.config.specs.Sizes.{vms_served}
 use Rattle.config.specs.declared.Config.{Config}
 use Rattle.image_reader.specs.Reader.{accepted, begun, no_config, onward, read_end, read_image, read_regions, read_slots, read_vms, refused, with_regions, with_slot, with_vm}
 use Rattle.image_reader.specs.Records.{core_fault, kind_is, region_fault, slot_fault, vm_fault}
-use Rattle.image_reader.specs.declared.Reading.{Reading}
+use Rattle.image_reader.specs.Reading.{Reading}
 use Rattle.regions.specs.Beside.{with_region}
 use Rattle.regions.specs.Rules.{none}
 use Rattle.regions.specs.declared.Regions.{Regions}
@@ -27,7 +27,7 @@ unfolding Plain
 plain_accepted c = inl refl
 
 plain_refused : (f at : ℕ) → (f ≡ 0 → ⊥) → Plain (refused f at)
-unfolding Plain refused
+unfolding Plain
 plain_refused f at h = inr (h, refl)
 
 plain_onward : (f at : ℕ) (r : Reading) → Plain r → Plain (onward f at r)

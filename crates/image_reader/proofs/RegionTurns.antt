@@ -16,7 +16,7 @@ use Rattle.config.specs.declared.Config.{Config}
 use Rattle.image_reader.proofs.Turns.{part, part_is}
 use Rattle.image_reader.specs.Reader.{read_regions, read_slots, refused, with_regions}
 use Rattle.image_reader.specs.Records.{place_fault, region_fault, short}
-use Rattle.image_reader.specs.declared.Reading.{Reading}
+use Rattle.image_reader.specs.Reading.{Reading}
 use Rattle.regions.specs.Beside.{agrees_all, with_region}
 use Rattle.regions.specs.Rules.{held, known, none}
 use Rattle.regions.specs.declared.Regions.{Regions}

@@ -17,7 +17,7 @@ use Rattle.config.specs.Sizes.{vms_served}
 use Rattle.config.specs.declared.Config.{Config}
 use Rattle.image_reader.specs.Reader.{accepted, begun, read_end, read_image, read_regions, read_slots, read_vms, refused, with_slot, with_vm}
 use Rattle.image_reader.specs.Records.{core_fault, kind_is, owner_fault, short, slot_fault, vm_fault}
-use Rattle.image_reader.specs.declared.Reading.{Reading}
+use Rattle.image_reader.specs.Reading.{Reading}
 use Rattle.regions.specs.Rules.{none}
 
 -- the part of a slice from a place to its end
@@ -127,24 +127,24 @@ module _ {s : List ℕ} {from : ℕ} {vms c : Config} {at n : ℕ} (i : Slots s 
     omega (arith, i.counted),
   )
 
-  pub turn_bad : {b f : ℕ} {r : Reading} → b ≡ get_or (part s at) 0 0 → (b ≡ 4 → ⊥) → f ≡ slot_fault c.count n (part s at) → (f ≡ 0 → ⊥) → r ≡ refused f at
+  pub turn_bad : {b f : ℕ} {r : Reading} → b ≡ get_or (part s at) 0 0 → (b ≡ 4 → ⊥) → f ≡ slot_fault c.count c.slots (part s at) → (f ≡ 0 → ⊥) → r ≡ refused f at
       → r ≡ read_slots 65 (drop from s) from vms
   turn_bad {b} {f} e g h k z =
-      z ∙ sym (slots_bad (64 - n) (drop at s) at c f (λ x. g (rw (part_is s at) at e ∙ x)) (rw (← i.counted, part_is s at) at h) k) ∙ opened
+      z ∙ sym (slots_bad (64 - n) (drop at s) at c f (λ x. g (rw (part_is s at) at e ∙ x)) (rw (part_is s at) at h) k) ∙ opened
 
-  pub turn_in : {f : ℕ} → f ≡ slot_fault c.count n (part s at) → f ≡ 0 → (at + 4 ≤ length s) × (n < 64)
+  pub turn_in : {f : ℕ} → f ≡ slot_fault c.count c.slots (part s at) → f ≡ 0 → (at + 4 ≤ length s) × (n < 64)
   turn_in h k =
-      let w = slot_passed c.count n (drop at s) (sym (rw (part_is s at) at h) ∙ k) in
-      (omega (arith, w.1, length-drop at s, i.inside), w.2)
+      let w = slot_passed c.count c.slots (drop at s) (sym (rw (part_is s at) at h) ∙ k) in
+      (omega (arith, w.1, length-drop at s, i.inside), omega (arith, w.2, i.counted))
 
-  pub turn_room : {f : ℕ} → f ≡ slot_fault c.count n (part s at) → f ≡ 0 → c.slots < 64
-  turn_room h k = omega (arith, (turn_in h k).1, i.counted)
+  pub turn_room : {f : ℕ} → f ≡ slot_fault c.count c.slots (part s at) → f ≡ 0 → n < 64
+  turn_room h k = (turn_in h k).1
 
-  pub turn_more : {b f o t : ℕ} {d : Config} → b ≡ get_or (part s at) 0 0 → (b ≡ 4 → ⊥) → f ≡ slot_fault c.count n (part s at) → f ≡ 0
+  pub turn_more : {b f o t : ℕ} {d : Config} → b ≡ get_or (part s at) 0 0 → (b ≡ 4 → ⊥) → f ≡ slot_fault c.count c.slots (part s at) → f ≡ 0
       → o ≡ get_or (part s at) 1 0 → t ≡ half (part s at) 2 → d ≡ with_slot c o t → Slots s from vms d (at + 4) (n + 1)
   turn_more {b} {f} {o} {t} {d} e g h k y z w =
       let q = turn_in h k in
-      let one = slots_goes (64 - n) (drop at s) at c (λ x. g (rw (part_is s at) at e ∙ x)) (sym (rw (← i.counted, part_is s at) at h) ∙ k) in
+      let one = slots_goes (64 - n) (drop at s) at c (λ x. g (rw (part_is s at) at e ∙ x)) (sym (rw (part_is s at) at h) ∙ k) in
       record {
         few = omega arith;
         counted = ap (λ (x : Config). x.slots) w ∙ ap (λ (x : ℕ). x + 1) i.counted;

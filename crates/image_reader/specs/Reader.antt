@@ -1,11 +1,13 @@
 -- Reading an image, record by record from the front (I6 to I10).
-use Rattle.std.specs.Prelude.{suc, zero, ℕ, ◌+◌, ◌-◌, eqb, drop, get_or, length, replicate, set, List}
+use Rattle.std.specs.Prelude.{suc, zero, ℕ, ◌+◌, ◌-◌, eqb, drop, get_or, length, replicate, set, List, Result, Ok, Err}
 use Rattle.basis.specs.Choice.{pick}
 use Rattle.basis.specs.Numbers.{half, word}
 use Rattle.config.specs.Sizes.{vms_served}
 use Rattle.config.specs.declared.Config.{Config}
+use Rattle.image_reader.specs.Faults.{fault_number}
 use Rattle.image_reader.specs.Records.{core_fault, kind_is, region_fault, slot_fault, vm_fault}
-use Rattle.image_reader.specs.declared.Reading.{Reading}
+use Rattle.image_reader.specs.Reading.{Reading}
+use Rattle.image_reader.specs.declared.fault.Refused.{Refused}
 use Rattle.regions.specs.Beside.{with_region}
 use Rattle.regions.specs.Rules.{none}
 use Rattle.regions.specs.declared.Regions.{Regions}
@@ -19,11 +21,16 @@ abbrev pub no_config : Config
 no_config = begun 0 0
 
 -- I7, I10: refused, the fault with its offset and no configuration
-unfoldable pub refused : ℕ → ℕ → Reading
+abbrev pub refused : ℕ → ℕ → Reading
 refused fault at = record { fault = fault; offset = at; config = no_config }
 
 abbrev pub accepted : Config → Reading
 accepted c = record { fault = 0; offset = 0; config = c }
+
+-- what the reader's `Result` says
+abbrev pub reading_of : Result Config Refused → Reading
+reading_of (Ok c) = accepted c
+reading_of (Err r) = refused (fault_number r.fault) r.offset
 
 -- I7: the first fault is the answer; where there is none, it goes on
 abbrev pub onward : ℕ → ℕ → Reading → Reading

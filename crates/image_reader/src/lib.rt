@@ -1,33 +1,24 @@
 // The reader of the configuration's image (I7 to I10).
 #![tactic(auto)]
 
+mod fault;
 mod reader;
 mod records;
 
 ghost use Rattle.std.specs.Prelude.{◌≡◌};
-ghost use Rattle.image_reader.specs.Reader.{read_image};
+ghost use Rattle.image_reader.specs.Reader.{read_image, reading_of};
 
 use basis::places;
 use config::Config;
-pub use reader::refused;
-
-// What reading gives: a fault with its offset and no configuration, or fault 0 with the configuration.
-#[repr(C)]
-#[derive(Clone, Copy)]
-pub struct Reading {
-    pub fault: u8,
-    pub offset: usize,
-    pub config: Config,
-}
+pub use fault::{Fault, Refused};
+pub use reader::no_config;
 
 // Reads an image of any length (I1 to I10, I13).
-pub fn read(s: &[u8]) -> Reading
-    ensures { result ≡ read_image s.now }
+pub fn read(s: &[u8]) -> Result<Config, Refused>
+    ensures { reading_of result ≡ read_image s.now }
 {
-    let fault = records::core_fault(s);
-    if fault != 0 {
-        return reader::refused(fault, 0);
-    }
-    let count = places::byte_at(s, 1);
-    reader::read_vms(s, reader::begun(count, places::byte_at(s, 2)))
+    records::check_core(s).map_err(|fault| fault.at(0))?;
+    let count = places::at(s, 1, 0);
+    let room = places::at(s, 2, 0);
+    reader::read_vms(s, reader::begun(count, room))
 }

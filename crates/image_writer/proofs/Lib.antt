@@ -1,2 +1,3 @@
 pub mod Puts
+pub mod Refusals
 pub mod Unique

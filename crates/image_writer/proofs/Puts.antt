@@ -11,8 +11,7 @@ use Rattle.basis.specs.Buffer.{put_all}
 use Rattle.basis.specs.Numbers.{half_bytes, word_bytes}
 use Rattle.config.specs.Sizes.{duration_at, entry_at, handler_at, legal, owner_at}
 use Rattle.config.specs.declared.Config.{Config}
-use Rattle.image_writer.specs.Writer.{answer_for, buffer_after, core_bytes, image, records_bytes, region_bytes, regions_bytes, slot_bytes, slots_bytes, unwritten, vm_bytes, vms_bytes}
-use Rattle.image_writer.specs.declared.Written.{Written}
+use Rattle.image_writer.specs.Writer.{answer_for, buffer_after, core_bytes, image, records_bytes, region_bytes, regions_bytes, slot_bytes, slots_bytes, unwritten, vm_bytes, vms_bytes, written}
 use Rattle.regions.specs.Rules.{holder_at, last_at, permission_at, start_at}
 use Rattle.regions.specs.declared.Regions.{Regions}
 
@@ -22,13 +21,14 @@ vm_put b x y at e h f g =
     let j : at + 5 ≡ at + 1 + 4 = omega arith in
     g ∙ rw (f, j) (put_all_join (word_bytes e) (word_bytes h) (set b at 2) (at + 1) 4 refl)
 
-pub region_put : (b x y : List ℕ) (at h p s l : ℕ) → x ≡ put_all (set (set (set b at 5) (at + 1) h) (at + 1 + 1) p) (at + 3) (word_bytes s) → y ≡ put_all x (at + 7) (word_bytes l)
+pub region_put : (b x y : List ℕ) (at h p s l : ℕ) → x ≡ put_all (set (set (set b at 5) (at + 1) h) (at + 2) p) (at + 3) (word_bytes s) → y ≡ put_all x (at + 7) (word_bytes l)
     → y ≡ put_all b at (region_bytes h p s l)
 unfolding put_all
 region_put b x y at h p s l f g =
     let j : at + 7 ≡ at + 3 + 4 = omega arith in
     let i : at + 3 ≡ at + 1 + 1 + 1 = omega arith in
-    g ∙ rw (f, j, put_all_join (word_bytes s) (word_bytes l) (set (set (set b at 5) (at + 1) h) (at + 1 + 1) p) (at + 3) 4 refl, i)
+    let two : at + 2 ≡ at + 1 + 1 = omega arith in
+    g ∙ rw (f, j, put_all_join (word_bytes s) (word_bytes l) (set (set (set b at 5) (at + 1) h) (at + 2) p) (at + 3) 4 refl, i, two)
 
 pub slot_put : (b y : List ℕ) (at owner ticks : ℕ) → y ≡ put_all (set (set b at 3) (at + 1) owner) (at + 2) (half_bytes ticks) → y ≡ put_all b at (slot_bytes owner ticks)
 unfolding put_all
@@ -46,15 +46,15 @@ slots_length : (c : Config) → length (slots_bytes c) ≡ c.slots * 4
 slots_length c = joined_length (λ k. slot_bytes (owner_at c k) (duration_at c k)) 4 (λ k. refl) c.slots
 
 -- all records but the last
-pub records_put : (c : Config) (b b1 b2 b3 b4 : List ℕ) (next : ℕ) → b1 ≡ put_all b 0 (core_bytes c.count c.room) → b2 ≡ put_all b1 3 (vms_bytes c)
-    → next ≡ 3 + c.count * 9 + c.regions.count * 11 → b3 ≡ put_all b2 (3 + c.count * 9) (regions_bytes c.regions) → b4 ≡ put_all b3 next (slots_bytes c)
+pub records_put : (c : Config) (b b1 b2 b3 b4 : List ℕ) → b1 ≡ put_all b 0 (core_bytes c.count c.room) → b2 ≡ put_all b1 3 (vms_bytes c)
+    → b3 ≡ put_all b2 (3 + c.count * 9) (regions_bytes c.regions) → b4 ≡ put_all b3 (3 + c.count * 9 + c.regions.count * 11) (slots_bytes c)
     → b4 ≡ put_all b 0 (records_bytes c)
 unfolding records_bytes
-records_put c b b1 b2 b3 b4 next e f n g h =
+records_put c b b1 b2 b3 b4 e f g h =
     let first = core_bytes c.count c.room in
     let held = regions_bytes c.regions in
     let j : 3 + c.count * 9 ≡ 0 + (3 + c.count * 9) = omega arith in
-    let k : next ≡ 0 + (3 + c.count * 9 + c.regions.count * 11) = omega arith in
+    let k : 0 + (3 + c.count * 9) + c.regions.count * 11 ≡ 0 + (3 + c.count * 9 + c.regions.count * 11) = omega arith in
     let two : length (first ++ vms_bytes c) ≡ 3 + c.count * 9 = length-append first (vms_bytes c) ∙ ap (λ (k : ℕ). 3 + k) (vms_length c) in
     let three : length ((first ++ vms_bytes c) ++ held) ≡ 3 + c.count * 9 + c.regions.count * 11 = omega (arith, length-append (first ++ vms_bytes c) held, two, regions_length c.regions) in
     h
@@ -71,25 +71,24 @@ unfolding image
 image_length c = omega (arith, length-append (records_bytes c) (4 ∷ []), records_length c)
 
 -- the writer's three answers
-module _ (c : Config) (b : List ℕ) (t : Bool) (e : t ≡ legal c) where
-  pub write_illegal : (b' : List ℕ) (r : Written) → t ≡ false → r ≡ unwritten 31 → b' ≡ b → (r ≡ answer_for c (length b)) × (b' ≡ buffer_after c b)
+module _ (c : Config) (b : List ℕ) where
+  pub write_illegal : legal c ≡ false → (unwritten 31 ≡ answer_for c (length b)) × (b ≡ buffer_after c b)
   unfolding answer_for buffer_after
-  write_illegal b' r f g k = (rw (sym e ∙ f) g, rw (sym e ∙ f) k)
+  write_illegal f = rw f (refl, refl)
 
-  module _ (n : ℕ) (sized : n ≡ 4 + c.count * 9 + c.regions.count * 11 + c.slots * 4) (f : t ≡ true) where
-    pub write_short : (b' : List ℕ) (r : Written) → length b < n → r ≡ unwritten 30 → b' ≡ b → (r ≡ answer_for c (length b)) × (b' ≡ buffer_after c b)
+  module _ (n : ℕ) (sized : n ≡ 4 + c.count * 9 + c.regions.count * 11 + c.slots * 4) (f : legal c ≡ true) where
+    pub write_short : length b < n → (unwritten 30 ≡ answer_for c (length b)) × (b ≡ buffer_after c b)
     unfolding answer_for buffer_after
-    write_short b' r l g k =
-        let h = lt-ltb (length b) (length (image c)) (omega (arith, image_length c)) in
-        (rw (sym e ∙ f, h) g, rw (sym e ∙ f, h) k)
+    write_short l = rw (f, lt-ltb (length b) (length (image c)) (omega (arith, image_length c))) (refl, refl)
 
     pub write_done : (b1 b2 : List ℕ) → n ≤ length b → b1 ≡ put_all b 0 (records_bytes c) → b2 ≡ set b1 (n - 1) 4
-        → (record { refusal = 0; size = n } ≡ answer_for c (length b)) × (b2 ≡ buffer_after c b)
+        → (written n ≡ answer_for c (length b)) × (b2 ≡ buffer_after c b)
     unfolding answer_for buffer_after image put_all
     write_done b1 b2 l p q =
         let h = le-ltb (length b) (length (image c)) (omega (arith, image_length c)) in
         let i : n ≡ length (image c) = omega (arith, image_length c) in
-        let j : n - 1 ≡ 0 + length (records_bytes c) = omega (arith, records_length c) in (
-          rw (sym e ∙ f, h) (ap (λ (k : ℕ). record { refusal = 0; size = k }) i),
-          rw (sym e ∙ f, h) (q ∙ rw (p, j) (put_all_join (records_bytes c) (4 ∷ []) b 0 (length (records_bytes c)) refl ∙ put_all_front b (image c) (omega arith))),
+        let j : n - 1 ≡ 0 + length (records_bytes c) = omega (arith, records_length c) in
+        rw (f, h) (
+          ap written i,
+          q ∙ rw (p, j) (put_all_join (records_bytes c) (4 ∷ []) b 0 (length (records_bytes c)) refl ∙ put_all_front b (image c) (omega arith)),
         )

@@ -1,11 +1,13 @@
 -- Writing an image (I2 to I6, I11, I12, I15).
-use Rattle.std.specs.Prelude.{ℕ, ltb, drop, length, List, [], ◌++◌, ◌∷◌}
+use Rattle.std.specs.Prelude.{ℕ, ltb, drop, length, List, Result, Ok, Err, [], ◌++◌, ◌∷◌}
 use Rattle.basis.specs.Choice.{pick}
 use Rattle.basis.specs.Count.{joined}
 use Rattle.basis.specs.Numbers.{half_bytes, word_bytes}
 use Rattle.config.specs.Sizes.{duration_at, entry_at, handler_at, legal, owner_at}
 use Rattle.config.specs.declared.Config.{Config}
-use Rattle.image_writer.specs.declared.Written.{Written}
+use Rattle.image_writer.specs.Refusals.{refusal_number}
+use Rattle.image_writer.specs.Written.{Written}
+use Rattle.image_writer.specs.declared.Unwritten.{Unwritten}
 use Rattle.regions.specs.Rules.{holder_at, last_at, permission_at, start_at}
 use Rattle.regions.specs.declared.Regions.{Regions}
 
@@ -45,6 +47,14 @@ image c = records_bytes c ++ (4 ∷ [])
 
 abbrev pub unwritten : ℕ → Written
 unwritten refusal = record { refusal = refusal; size = 0 }
+
+abbrev pub written : ℕ → Written
+written size = record { refusal = 0; size = size }
+
+-- what the writer's `Result` says
+abbrev pub written_of : Result ℕ Unwritten → Written
+written_of (Ok size) = written size
+written_of (Err u) = unwritten (refusal_number u)
 
 -- I11, I12: the writer's answer, for a buffer of n bytes
 unfoldable pub answer_for : Config → ℕ → Written

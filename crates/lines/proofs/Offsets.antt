@@ -11,22 +11,22 @@ use Rattle.basis.specs.Numbers.{half, word}
 use Rattle.config.specs.Sizes.{vms_served}
 use Rattle.config.specs.declared.Config.{Config}
 use Rattle.image_reader.proofs.Turns.{core_passed}
-use Rattle.image_reader.specs.Reader.{begun, read_end, read_image, read_regions, read_slots, read_vms, refused, with_regions, with_slot, with_vm}
+use Rattle.image_reader.specs.Reader.{begun, read_end, read_image, read_regions, read_slots, read_vms, with_regions, with_slot, with_vm}
 use Rattle.image_reader.specs.Records.{core_fault, kind_is, region_fault, slot_fault, vm_fault}
-use Rattle.image_reader.specs.declared.Reading.{Reading}
+use Rattle.image_reader.specs.Reading.{Reading}
 use Rattle.regions.specs.Beside.{with_region}
 use Rattle.regions.specs.Rules.{none}
 use Rattle.regions.specs.declared.Regions.{Regions}
 
 end_offset : (bs : List ℕ) (at : ℕ) (c : Config) → (read_end bs at c).offset ≤ at + 1
-unfolding read_end refused
+unfolding read_end
 end_offset bs at c =
     pick_case (λ (r : Reading). r.offset ≤ at + 1) (vms_served c) _ _
     (λ t. pick_case (λ (r : Reading). r.offset ≤ at + 1) (eqb (length bs) 1) _ _ (λ u. omega arith) (λ u. omega arith))
     (λ t. omega arith)
 
 slots_offset : (n : ℕ) (bs : List ℕ) (at : ℕ) (c : Config) → (read_slots n bs at c).offset ≤ at + n * 4 + 1
-unfolding read_slots refused
+unfolding read_slots
 slots_offset zero bs at c = omega arith
 slots_offset (suc n) bs at c =
     pick_case (λ (r : Reading). r.offset ≤ at + suc n * 4 + 1) (kind_is 4 bs) _ _
@@ -36,7 +36,7 @@ slots_offset (suc n) bs at c =
     (λ u. omega arith))
 
 regions_offset : (n : ℕ) (bs : List ℕ) (at : ℕ) (c : Config) (r : Regions) → (read_regions n bs at c r).offset ≤ at + n * 11 + 261
-unfolding read_regions refused
+unfolding read_regions
 regions_offset zero bs at c r = omega arith
 regions_offset (suc n) bs at c r =
     pick_case (λ (q : Reading). q.offset ≤ at + suc n * 11 + 261) (kind_is 5 bs) _ _
@@ -46,7 +46,7 @@ regions_offset (suc n) bs at c r =
     (λ t. omega (arith, slots_offset 65 bs at (with_regions c r)))
 
 vms_offset : (n : ℕ) (bs : List ℕ) (at : ℕ) (c : Config) → (read_vms n bs at c).offset ≤ at + n * 9 + 976
-unfolding read_vms refused
+unfolding read_vms
 vms_offset zero bs at c = omega (arith, regions_offset 65 bs at c none)
 vms_offset (suc n) bs at c =
     pick_case (λ (r : Reading). r.offset ≤ at + suc n * 9 + 976) (eqb (vm_fault bs) 0) _ _
@@ -54,7 +54,7 @@ vms_offset (suc n) bs at c =
     (λ u. omega arith)
 
 pub offset_small : (bs : List ℕ) (r : Reading) → r ≡ read_image bs → r.offset < 2 ^ 32
-unfolding read_image refused
+unfolding read_image
 offset_small bs r e =
     rw e (pick_case (λ (q : Reading). q.offset < 2 ^ 32) (eqb (core_fault bs) 0) _ _
     (λ t. omega (arith, vms_offset (get_or bs 1 0) (drop 3 bs) 3 (begun (get_or bs 1 0) (get_or bs 2 0)), core_passed bs (eqb-true (core_fault bs) 0 t)))

@@ -1,95 +1,78 @@
 // The lines of a run's text: that of an event (N3, N4), of a refused image (N5), of a cut log (N7).
-ghost use Rattle.std.specs.Prelude.{◌+◌, ◌≤◌, length, ◌≡◌};
 ghost use Rattle.lines.specs.Text.{cut_text, line_text, refused_text, runs_text, where_text};
-ghost use Rattle.lines.specs.Words.{address, choice, two};
-ghost use Rattle.text.specs.Pairs.{pairs};
-ghost use Rattle.text.specs.Puts.{Puts};
+ghost use Rattle.lines.specs.Words.{choice, two};
+ghost use Rattle.text.specs.Adds.{Adds, Room};
 
 use change::Answer;
+use text::Page;
 
 // A VM or a pseudo-interrupt, or `-` for none (N4), and the byte behind it.
-pub fn put_choice(b: &mut [u8], at: usize, v: u8, after: u8) -> usize
-    requires { at + 11 ≤ length b.old }
-    ensures { Puts (choice v after) b.old at b.new result × (result ≤ at + 11) }
+pub fn put_choice(page: &mut Page, v: u8, after: u8)
+    requires { Room 11 page.old }
+    ensures { Adds (choice v after) 11 page.old page.new }
 {
     if v == Answer::NOBODY {
-        return text::put_mark(b, at, 45, after);
+        page.put_mark(b'-', after);
+        return;
     }
-    text::put_number(b, at, v as u32, after)
+    page.put_number(v as u32, after);
 }
 
 // The address of the VM that runs, or `-` where none does.
-fn put_where(b: &mut [u8], at: usize, running: u8, address: u32, t: &[u8; 712]) -> usize
-    requires { (t.now ≡ pairs) × (at + 9 ≤ length b.old) }
-    ensures { Puts (where_text running address) b.old at b.new result × (result ≤ at + 9) }
+fn put_where(page: &mut Page, running: u8, address: u32)
+    requires { Room 9 page.old }
+    ensures { Adds (where_text running address) 9 page.old page.new }
 {
     if running == Answer::NOBODY {
-        return text::put_mark(b, at, 45, 32);
+        page.put_mark(b'-', b' ');
+        return;
     }
-    text::put_address(b, at, address, 32, t)
+    page.put_address(address, b' ');
 }
 
-fn put_runs(
-    b: &mut [u8],
-    at: usize,
-    running: u8,
-    address: u32,
-    delivered: u8,
-    t: &[u8; 712],
-) -> usize
-    requires { (t.now ≡ pairs) × (at + 31 ≤ length b.old) }
-    ensures { Puts (runs_text running address delivered) b.old at b.new result × (result ≤ at + 31) }
+fn put_runs(page: &mut Page, running: u8, address: u32, delivered: u8)
+    requires { Room 31 page.old }
+    ensures { Adds (runs_text running address delivered) 31 page.old page.new }
 {
-    let a1 = put_choice(b, at, running, 32);
-    let a2 = put_where(b, a1, running, address, t);
-    put_choice(b, a2, delivered, 32)
+    put_choice(page, running, b' ');
+    put_where(page, running, address);
+    put_choice(page, delivered, b' ');
 }
 
 // Two numbers, and the byte behind the second.
-pub fn put_two(b: &mut [u8], at: usize, m: u32, n: u32, after: u8) -> usize
-    requires { at + 22 ≤ length b.old }
-    ensures { Puts (two m n after) b.old at b.new result × (result ≤ at + 22) }
+pub fn put_two(page: &mut Page, m: u32, n: u32, after: u8)
+    requires { Room 22 page.old }
+    ensures { Adds (two m n after) 22 page.old page.new }
 {
-    let second = text::put_number(b, at, m, 32);
-    text::put_number(b, second, n, after)
-}
-
-// The same by the table of pairs, for numbers that may have more digits than one.
-pub fn put_two_by(b: &mut [u8], at: usize, m: u32, n: u32, after: u8, t: &[u8; 712]) -> usize
-    requires { (t.now ≡ pairs) × (at + 22 ≤ length b.old) }
-    ensures { Puts (two m n after) b.old at b.new result × (result ≤ at + 22) }
-{
-    let second = text::put_number_by(b, at, m, 32, t);
-    text::put_number_by(b, second, n, after, t)
+    page.put_number(m, b' ');
+    page.put_number(n, after);
 }
 
 // N3, N4, N12.
-pub fn put_line(b: &mut [u8], at: usize, n: u32, a: Answer, t: &[u8; 712]) -> usize
-    requires { (t.now ≡ pairs) × (at + 86 ≤ length b.old) }
-    ensures { Puts (line_text n a) b.old at b.new result × (result ≤ at + 86) }
+pub fn put_line(page: &mut Page, n: u32, a: &Answer)
+    requires { Room 86 page.old }
+    ensures { Adds (line_text n a.now) 86 page.old page.new }
 {
-    let told = a.notice;
-    let a0 = text::put_number_by(b, at, n, 32, t);
-    let a1 = text::put_number(b, a0, a.refusal as u32, 32);
-    let a2 = put_runs(b, a1, a.running, a.address, a.delivered, t);
-    let a3 = put_two(b, a2, told.kind as u32, a.result as u32, 32);
-    text::put_number(b, a3, a.removed as u32, 10)
+    put_two(page, n, a.refusal as u32, b' ');
+    put_runs(page, a.running, a.address, a.delivered);
+    put_two(page, a.notice.kind as u32, a.result as u32, b' ');
+    page.put_number(a.removed as u32, b'\n');
 }
 
 // N5.
-pub fn put_refused(b: &mut [u8], at: usize, fault: u8, offset: u32) -> usize
-    requires { at + 29 ≤ length b.old }
-    ensures { Puts (refused_text fault offset) b.old at b.new result × (result ≤ at + 29) }
+pub fn put_refused(page: &mut Page, fault: u8, offset: u32)
+    requires { Room 29 page.old }
+    ensures { Adds (refused_text fault offset) 29 page.old page.new }
 {
-    let word = text::put_word(b, at, b"config ");
-    put_two(b, word, fault as u32, offset, 10)
+    page.put_word(b"config ");
+    put_two(page, fault as u32, offset, b'\n');
 }
 
 // N7.
-pub fn put_cut(b: &mut [u8], at: usize, n: u32) -> usize
-    requires { at + 15 ≤ length b.old }
-    ensures { Puts (cut_text n) b.old at b.new result × (result ≤ at + 15) }
+pub fn put_cut(page: &mut Page, n: u32)
+    requires { Room 15 page.old }
+    ensures { Adds (cut_text n) 15 page.old page.new }
 {
-    let word = text::put_word(b, at, b"cut ");
-    text::put_number(b, word, n, 10)
+    page.put_word(b"cut ");
+    page.put_number(n, b'\n');
 }

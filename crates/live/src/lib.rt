@@ -7,13 +7,12 @@ ghost use Rattle.change.specs.Answers.{quietly};
 ghost use Rattle.config.specs.Sizes.{access};
 ghost use Rattle.rig_core.specs.Events.{step_of};
 ghost use Rattle.rig_core.specs.Memory.{copy_in, memory_after};
-ghost use Rattle.rig_core.specs.Parts.{parts_of};
 ghost use Rattle.live.specs.Host.{begun_from, inner_by, step_by};
 
 use change::Answer;
 use config::Config;
-use event::{Asked, Event};
-use rig_core::{After, Core, Stepped};
+use event::Event;
+use rig_core::{Core, Stepped};
 use window::Pieces;
 
 // An event as plain numbers: the kind of its record (E2 to E10), then what its body holds. What a kind does not have is not read. A Copy (E13) goes by core_copy: its kind is here as one that is no event's.
@@ -48,13 +47,17 @@ pub fn happen(c: &mut Core, e: Event) -> Answer
 pub fn core_fresh(s: &[u8]) -> Begun
     ensures { result ≡ begun_from s.now }
 {
-    let r = image_reader::read(s);
-    let config = r.config;
-    let core = Core::fresh(config);
-    Begun {
-        fault: r.fault,
-        offset: r.offset,
-        core: core,
+    match image_reader::read(s) {
+        Ok(config) => Begun {
+            fault: 0,
+            offset: 0,
+            core: Core::fresh(config),
+        },
+        Err(refused) => Begun {
+            fault: refused.fault.number(),
+            offset: refused.offset,
+            core: Core::fresh(image_reader::no_config()),
+        },
     }
 }
 
@@ -66,7 +69,7 @@ pub fn core_step(c: Core, e: Input) -> Stepped
     let answer = core_live(&mut after, e);
     Stepped {
         core: after,
-        answer: answer,
+        answer,
     }
 }
 
@@ -74,32 +77,37 @@ pub fn core_step(c: Core, e: Input) -> Stepped
 pub fn core_live(c: &mut Core, e: Input) -> Answer
     ensures { (c.new ≡ (step_by c.old e).core) × (result ≡ (step_by c.old e).answer) }
 {
-    if Core::sound(*c) {
+    if c.sound() {
         return core_inner(c, e);
     }
     barred()
 }
 
-// The same (T9) for a host that knows its core to be sound, since only these functions wrote it: nothing is tested.
+// The same (T9) for a host that knows its core to be sound, since only these functions wrote it: nothing is tested. What is no event is
+// refused with 10, as in a log.
 pub fn core_inner(c: &mut Core, e: Input) -> Answer
     ensures { (c.new ≡ (inner_by c.old e).core) × (result ≡ (inner_by c.old e).answer) }
 {
-    let s = inner_after(*c, e);
-    let vms = s.vms;
-    c.vms = vms;
-    c.clock = s.clock;
-    c.running = s.running;
-    c.queue = s.queue;
-    s.answer
+    match Event::asked(e.kind, e.byte, e.word, e.next) {
+        Some(event) => {
+            let after = c.inner(event);
+            *c = after.core;
+            after.answer
+        }
+        None => c.refusal(10),
+    }
 }
 
 // A Copy for a host (T9, E13, E14, D31 to D37): on the core that it lends, with the window that it lends beside it, from the base address on. All of it or nothing (D35). A core that is not sound is refused with 1 (R1).
 pub fn core_copy(c: &mut Core, p: Pieces, m: &mut [u8], base: u32) -> Answer
     ensures { (c.new ≡ (step_of c.old (copy_in p base m.old)).core) × (result ≡ (step_of c.old (copy_in p base m.old)).answer) × (m.new ≡ memory_after c.old (copy_in p base m.old) m.old) }
 {
-    let after = copy_of(*c, p, m, base);
-    *c = after.core;
-    after.answer
+    if c.sound() {
+        let after = c.copied(p, m, base);
+        *c = after.core;
+        return after.answer;
+    }
+    barred()
 }
 
 // The access query for a host (H8 to H11).
@@ -107,35 +115,6 @@ pub fn core_allows(config: Config, vm: u8, address: u32, length: u32, way: u8) -
     ensures { result ≡ access config vm address length way }
 {
     config.allows(vm, address, length, way)
-}
-
-// What is no event is refused with 10, as in a log.
-fn inner_after(c: Core, e: Input) -> After
-    ensures { result ≡ parts_of (inner_by c e) }
-{
-    let a = Event::asked(e.kind, e.byte, e.word, e.next);
-    match a {
-        Asked::Known(event) => c.after(event),
-        Asked::Unknown => c.kept(10),
-    }
-}
-
-// A Copy by value (T8). What is no event is refused with 10, and with 1 where the state is not sound (R1), so that `core_step` tells whether it
-// is: the state is tested in one place alone, since a test that stands in two is no part of either, and has to copy the state.
-fn copy_of(c: Core, p: Pieces, m: &mut [u8], base: u32) -> Stepped
-    ensures { (result ≡ step_of c (copy_in p base m.old)) × (m.new ≡ memory_after c (copy_in p base m.old) m.old) }
-{
-    let nothing = Input {
-        kind: 0,
-        byte: 0,
-        word: 0,
-        next: 0,
-    };
-    let told = core_step(c, nothing);
-    if told.answer.refusal == 1 {
-        return told;
-    }
-    c.copied(p, m, base)
 }
 
 // The answer of a state that is not sound (R3).

@@ -1,4 +1,6 @@
 -- From the fresh core of an accepted image, after any calls, `core_inner` leaves and answers what `core_live` does.
+use Rattle.event.specs.declared.Event.{Event}
+use Rattle.std.proofs.Common.{Option, Some, None}
 use Prim.Native.Nat.{ℕ}
 use mathlib.Core.List.{List, [], ◌∷◌}
 use mathlib.Core.Path.{subst, sym, ◌≡◌}
@@ -9,8 +11,6 @@ use Rattle.rig_core.specs.declared.Core.{Core}
 use Rattle.rig_core.specs.declared.Stepped.{Stepped}
 use Rattle.core_laws.proofs.Always.{Good, good_fresh, good_step}
 use Rattle.core_laws.proofs.Facts.{sound_of}
-use Rattle.event.specs.declared.Asked.TheVariants.{Known, Unknown}
-use Rattle.event.specs.declared.Asked.{Asked}
 use Rattle.image_laws.proofs.Theorems.{given}
 use Rattle.live.proofs.Host.{host_sound}
 use Rattle.live.specs.Host.{begun_from, inner_by, step_by, step_for}
@@ -21,10 +21,10 @@ use Rattle.live_laws.specs.Calls.{Called, Copied, Inner, Live, called, calls}
 pub inner_same : (c : Core) (e : Input) → Good c → inner_by c e ≡ step_by c e
 inner_same c e h = sym (host_sound c e (sound_of c h.facts))
 
-for_good : (c : Core) (a : Asked) → Good c → Good (step_for c a).core
+for_good : (c : Core) (a : Option Event) → Good c → Good (step_for c a).core
 unfolding step_for refused
-for_good c (Known e) h = good_step c e h
-for_good c Unknown h = h
+for_good c (Some e) h = good_step c e h
+for_good c None h = h
 
 -- and leave one that is sound again
 call_good : (c : Core) (k : Called) → Good c → Good (called c k)

@@ -11,7 +11,7 @@ fn main(rt: HostRuntime) {
     let m = console::read_file(&rt, b"config.bin", &mut image);
     let n = console::read_file(&rt, b"events.bin", &mut log);
     let k = console::read_file(&rt, b"memory.bin", &mut memory);
-    if console::print_run(&image[..m], &log[..n], false, &mut out) {
+    if console::print_run(&image[..m], &log[..n], false, &mut out).is_ok() {
         let used = memory_text::put(&mut out, &image[..m], &log[..n], &memory[..k]);
         io::write_all(1, &out[..used]);
     }

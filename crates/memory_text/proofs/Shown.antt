@@ -7,7 +7,7 @@ use mathlib.Core.Path.{◌≡◌}
 use Rattle.rig_core.specs.State.{fresh_core}
 use Rattle.events.specs.Log.{events_from, longest}
 use Rattle.image_reader.specs.Reader.{read_image}
-use Rattle.image_reader.specs.declared.Reading.{Reading}
+use Rattle.image_reader.specs.Reading.{Reading}
 use Rattle.lines.proofs.Texts.{puts_none}
 use Rattle.memory_text.specs.Memory.{enough, is_run, memory_by, shown_in, window_after, window_part, window_text, window_with}
 use Rattle.text.specs.Puts.{Puts}

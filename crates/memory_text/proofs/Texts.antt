@@ -2,7 +2,7 @@
 use Prim.Native.Nat.{ℕ, ◌*◌, ◌+◌, ◌-◌, ◌<◌}
 use borrow.Author.Tests.{eq-eqb, ne_eqb}
 use lib.Dec.{eqb}
-use lib.ListN.{drop, get_or, length, take}
+use lib.ListN.{drop, get_or, take}
 use mathlib.Core.Bool.{Bool, false, true}
 use mathlib.Core.List.{List}
 use mathlib.Core.Path.{ap, refl, sym, ◌∙◌, ◌≡◌}
@@ -10,10 +10,10 @@ use native.Mathlib.Omega.{arith}
 use Rattle.basis.proofs.Laws.{every_end, every_is, every_more, every_none, false_true, same_test}
 use Rattle.basis.specs.Choice.{both}
 use Rattle.basis.specs.Count.{every}
-use Rattle.lines.proofs.Texts.{puts_none}
-use Rattle.lines.specs.Text.{bytes_text}
+use Rattle.lines.proofs.Texts.{adds_none}
 use Rattle.memory_text.specs.Memory.{is_blank, row_line, row_of, row_text}
-use Rattle.text.specs.Puts.{Puts}
+use Rattle.text.specs.Adds.{Adds}
+use Rattle.text.specs.declared.page.Page.{Page}
 
 -- the first n bytes of a row are zero
 abbrev pub blank_to : List ℕ → ℕ → Bool
@@ -39,16 +39,12 @@ blank_not row n h f =
 row_is : (m : List ℕ) (k : ℕ) → take (32 * k + 32 - 32 * k) (drop (32 * k) m) ≡ row_of m k
 row_is m k = let e : 32 * k + 32 - 32 * k ≡ 32 = omega arith in ap (λ (n : ℕ). take n (drop (32 * k) m)) e
 
-module _ {b n : List ℕ} {i j : ℕ} where
-  pub row_bytes : (row : List ℕ) → length row ≡ 32 → Puts (bytes_text row (length row)) b i n j → Puts (bytes_text row 32) b i n j
-  row_bytes row e p = rw (← e) p
-
-  module _ (m : List ℕ) (k : ℕ) (x : Bool) (h : x ≡ is_blank (take (32 * k + 32 - 32 * k) (drop (32 * k) m))) where
-    pub row_shown : x ≡ false → Puts (row_line (1073741824 + 32 * k) (take (32 * k + 32 - 32 * k) (drop (32 * k) m))) b i n j → Puts (row_text m k) b i n j
-    unfolding row_text
-    row_shown e p = rw (← row_is m k, ← h, e) p
-
-module _ (b : List ℕ) (i : ℕ) (m : List ℕ) (k : ℕ) (x : Bool) (h : x ≡ is_blank (take (32 * k + 32 - 32 * k) (drop (32 * k) m))) where
-  pub row_none : x ≡ true → Puts (row_text m k) b i b i
+module _ {p q : Page} (m : List ℕ) (k : ℕ) (x : Bool) (h : x ≡ is_blank (take (32 * k + 32 - 32 * k) (drop (32 * k) m))) where
+  pub row_shown : x ≡ false → Adds (row_line (1073741824 + 32 * k) (take (32 * k + 32 - 32 * k) (drop (32 * k) m))) 81 p q → Adds (row_text m k) 81 p q
   unfolding row_text
-  row_none e = rw (← row_is m k, ← h, e) (puts_none b i)
+  row_shown e a = rw (← row_is m k, ← h, e) a
+
+module _ (m : List ℕ) (k : ℕ) (x : Bool) (h : x ≡ is_blank (take (32 * k + 32 - 32 * k) (drop (32 * k) m))) where
+  pub row_none : {p : Page} → x ≡ true → Adds (row_text m k) 81 p p
+  unfolding row_text
+  row_none {p} e = rw (← row_is m k, ← h, e) (adds_none 81 p)

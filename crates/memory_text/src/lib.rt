@@ -8,6 +8,8 @@ ghost use Rattle.std.specs.Prelude.{◌≤◌, length};
 ghost use Rattle.memory_text.specs.Memory.{shown_in};
 ghost use Rattle.text.specs.Puts.{Puts};
 
+use text::Page;
+
 // The most bytes that are put: 512 lines of 81.
 const ROOM: usize = 41472;
 
@@ -19,14 +21,15 @@ pub fn put(b: &mut [u8], image: &[u8], log: &[u8], memory: &[u8]) -> usize
     if b.len() < ROOM {
         return 0;
     }
-    let r = image_reader::read(image);
-    if r.fault != 0 {
+    let Ok(config) = image_reader::read(image) else {
         return 0;
-    }
+    };
     if events::LONGEST < log.len() {
         return 0;
     }
     let mut m = run::filled(memory);
-    run::run(r.config, log, &mut m);
-    rows::put_rows(b, &m)
+    run::run(config, log, &mut m);
+    let mut page = Page { bytes: b, used: 0 };
+    rows::put_rows(&mut page, &m);
+    page.used
 }

@@ -1,4 +1,5 @@
 -- What is due to a VM, in words (D11): the number that the search of the core finds is set in both fields, and none higher is.
+use Rattle.std.proofs.Common.{Option, Some, None}
 use Prim.Native.Nat.{ℕ}
 use mathlib.Core.Bool.{false}
 use mathlib.Core.Logic.{inl, inr, ◌⊎◌}
@@ -10,8 +11,6 @@ use Rattle.basis.specs.Bits.{bit}
 use Rattle.basis.specs.Choice.{both}
 use Rattle.guest.proofs.Laws.{due_is, due_nothing}
 use Rattle.guest.specs.Deliver.{due}
-use Rattle.guest.specs.declared.Found.TheVariants.{At, Nothing}
-use Rattle.guest.specs.declared.Found.{Found}
 use Rattle.guest.specs.declared.Status.{Status}
 use Rattle.promises.specs.Delivering.{Highest, InBoth, NoneDue, Offer}
 
@@ -28,35 +27,35 @@ module _ (o : Offer) (s : Status) (pending : s.pending ≡ o.pending) (enabled :
   apart : (k : ℕ) → both (bit k s.pending) (bit k s.enabled) ≡ false → InBoth o k → ⊥
   apart k h i = false_true (sym (rw (pending, enabled) at h) ∙ both_of (bit k o.pending) (bit k o.enabled) i.0 i.1)
 
-  none_found : due s ≡ Nothing → NoneDue o
+  none_found : due s ≡ None → NoneDue o
   none_found h k l i = apart k (due_nothing s h k l) i
 
-  pub found_highest : (n : ℕ) → due s ≡ At n → Highest o n
+  pub found_highest : (n : ℕ) → due s ≡ Some n → Highest o n
   found_highest n h =
       let a = due_is s n h in
       let b = rw (pending, enabled) at a.1 in
       record { small = a.0; set = (both_left (bit n o.pending) (bit n o.enabled) b, both_right (bit n o.pending) (bit n o.enabled) b); top = λ k l m i. apart k (a.2 k l m) i }
 
-  pub highest_found : (n : ℕ) → Highest o n → due s ≡ At n
+  pub highest_found : (n : ℕ) → Highest o n → due s ≡ Some n
   highest_found n a = go (due s) refl
     where
-      go : (f : Found) → due s ≡ f → f ≡ At n
-      go Nothing h = absurd (none_found h n a.small a.set)
-      go (At k) h = ap At (highest_one o k n (found_highest k h) a)
+      go : (f : Option ℕ) → due s ≡ f → f ≡ Some n
+      go None h = absurd (none_found h n a.small a.set)
+      go (Some k) h = ap Some (highest_one o k n (found_highest k h) a)
 
-  pub found_none : NoneDue o → due s ≡ Nothing
+  pub found_none : NoneDue o → due s ≡ None
   found_none a = go (due s) refl
     where
-      go : (f : Found) → due s ≡ f → f ≡ Nothing
-      go Nothing h = refl
-      go (At k) h = (let b = found_highest k h in absurd (a k b.small b.set))
+      go : (f : Option ℕ) → due s ≡ f → f ≡ None
+      go None h = refl
+      go (Some k) h = (let b = found_highest k h in absurd (a k b.small b.set))
 
   due_cases : NoneDue o ⊎ ((n : ℕ) × Highest o n)
   due_cases = go (due s) refl
     where
-      go : (f : Found) → due s ≡ f → NoneDue o ⊎ ((n : ℕ) × Highest o n)
-      go Nothing h = inl (none_found h)
-      go (At k) h = inr (k, found_highest k h)
+      go : (f : Option ℕ) → due s ≡ f → NoneDue o ⊎ ((n : ℕ) × Highest o n)
+      go None h = inl (none_found h)
+      go (Some k) h = inr (k, found_highest k h)
 
 -- nothing is due, or one number is
 pub due_either : (o : Offer) → NoneDue o ⊎ ((n : ℕ) × Highest o n)

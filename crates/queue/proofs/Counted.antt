@@ -1,10 +1,9 @@
 -- How many entries of the queue are one VM's (A8), after each thing that is done to the queue, and that the queue counts follow (T10).
-use Rattle.std.proofs.Common.{◌≡◌, ℕ, suc, ◌+◌, ◌-◌, ◌%◌, ◌^◌, ◌<◌, ◌≤◌, min, Bool, true, false, eqb, List, [], ◌∷◌, ◌++◌, length, get_or, take, set, replicate, sym, refl, ap, ◌∙◌, mod-eq_of_lt, add-one, arith, length-set, length-take, take_all, get_or-set_other, take-suc, get_or-set_same, ext_get_or, eq-eqb, ne_eqb, eqb-true}
+use Rattle.std.proofs.Common.{◌≡◌, ℕ, suc, ◌+◌, ◌-◌, ◌%◌, ◌^◌, ◌<◌, ◌≤◌, Bool, true, false, eqb, nat_eq, List, [], ◌∷◌, ◌++◌, length, get_or, take, set, replicate, sym, refl, ap, ◌∙◌, mod-eq_of_lt, add-one, arith, length-set, length-take, get_or-set_other, take-suc, get_or-set_same, ext_get_or, eq-eqb, ne_eqb, eqb-true}
 use borrow.Author.Tests.{eqb-false}
-use native.Mathlib.Decide.{dec_lt}
-use Rattle.basis.proofs.Laws.{eqb_same, every_below, every_is, every_of}
+use Rattle.std.specs.Cmp.Lexicographic.{other_text, pointwise, same_text}
+use Rattle.basis.proofs.Laws.{eqb_same, every_is, every_of}
 use Rattle.basis.specs.Choice.{pick}
-use Rattle.basis.specs.Count.{every}
 use Rattle.basis.specs.Nobody.{nobody}
 use Rattle.queue.proofs.Lists.{set_past, zeros_at}
 use Rattle.queue.proofs.Meaning.{others_count}
@@ -113,20 +112,20 @@ module _ (counts l : List ℕ) (eight : length counts ≡ 8) (h : Counted counts
 pub counted_one : (a b l : List ℕ) → length a ≡ 8 → length b ≡ 8 → Counted a l → Counted b l → a ≡ b
 counted_one a b l m n h k = ext_get_or 0 a b (m ∙ sym n) (λ v i. (let j : v < 8 = omega arith in h v j ∙ sym (k v j)))
 
--- the loop that counts: none yet; one place more, of a VM or of a number past the last
-pub counts_none : (items : List ℕ) → Counted (replicate 8 0) (take 0 items)
+-- the loop that counts: none yet; one entry more, of a VM or of a number past the last
+pub counts_none : Counted (replicate 8 0) []
 unfolding entries_of
-counts_none items v i = zeros_at 8 v
+counts_none v i = zeros_at 8 v
 
-module _ (items out : List ℕ) (k : ℕ) (places : length items ≡ 16) (in-them : k < 16) (eight : length out ≡ 8) (h : Counted out (take k items)) where
-  pub counts_more : (y : ℕ) (l : List ℕ) → y ≡ (get_or out (get_or items k 0) 0 + 1) % 2 ^ 8 → l ≡ set out (get_or items k 0) y → (length l ≡ 8) × Counted l (take (k + 1) items)
-  counts_more y l e f = (
-    ap length f ∙ length-set out (get_or items k 0) y ∙ eight,
-    rw (f, e, add-one k, take-suc items k 0 (omega arith)) (counted_raised out (take k items) eight h (get_or items k 0) (omega (arith, length-take k items))),
+module _ (l out : List ℕ) (k : ℕ) (few : length l ≤ 16) (in-them : k < length l) (eight : length out ≡ 8) (h : Counted out (take k l)) where
+  pub counts_more : (y : ℕ) (m : List ℕ) → y ≡ (get_or out (get_or l k 0) 0 + 1) % 2 ^ 8 → m ≡ set out (get_or l k 0) y → (length m ≡ 8) × Counted m (take (k + 1) l)
+  counts_more y m e f = (
+    ap length f ∙ length-set out (get_or l k 0) y ∙ eight,
+    rw (f, e, add-one k, take-suc l k 0 in-them) (counted_raised out (take k l) eight h (get_or l k 0) (omega (arith, length-take k l))),
   )
 
-  pub counts_past : (l : List ℕ) → 8 ≤ get_or items k 0 → l ≡ out → (length l ≡ 8) × Counted l (take (k + 1) items)
-  counts_past l g e = counts_more ((get_or out (get_or items k 0) 0 + 1) % 2 ^ 8) l refl (e ∙ set_past out 8 (get_or items k 0) _ eight g)
+  pub counts_past : (m : List ℕ) → 8 ≤ get_or l k 0 → m ≡ out → (length m ≡ 8) × Counted m (take (k + 1) l)
+  counts_past m g e = counts_more ((get_or out (get_or l k 0) 0 + 1) % 2 ^ 8) m refl (e ∙ set_past out 8 (get_or l k 0) _ eight g)
 
 -- W13: the test is the fact
 pub counted_is : (q : Queue) → counted_of q ≡ true → Counted q.counts (entries q)
@@ -137,15 +136,11 @@ pub counted_of_lem : (q : Queue) → Counted q.counts (entries q) → counted_of
 unfolding counted_of
 counted_of_lem q h = every_of (λ w. eqb (get_or q.counts w 0) (entries_of w (entries q))) 8 (λ v i. eq-eqb _ _ (h v i))
 
--- and the test of the code, which counts the entries, of which there are sixteen at most
-pub counted_test : (q : Queue) (found : List ℕ) (n : ℕ) (r : Bool) → length q.items ≡ 16 → n ≡ min q.len 16 → Counted found (take n q.items)
-    → r ≡ every (λ v. eqb (get_or q.counts v 0) (get_or found v 0)) 8 → r ≡ counted_of q
-unfolding counted_of
-counted_test q found n r s e h f = f ∙ every_below _ _ 8 (λ v i. ap (eqb (get_or q.counts v 0)) (h v i ∙ ap (entries_of v) same))
+-- and the test of the code: the counts are equal to those that the entries have
+pub counted_test : (q : Queue) (found : List ℕ) (r : Bool) → length q.counts ≡ 8 → length found ≡ 8 → Counted found (entries q) → r ≡ pointwise nat_eq q.counts found → r ≡ counted_of q
+counted_test q found true eight m h e = sym (counted_of_lem q (λ v i. ap (λ (l : List ℕ). get_or l v 0) (same_text q.counts found e) ∙ h v i))
+counted_test q found false eight m h e = go (counted_of q) refl
   where
-    same : take n q.items ≡ take q.len q.items
-    same =
-        elim (dec_lt 16 q.len) [
-          | yes l ↦ take_all n q.items (omega arith) ∙ sym (take_all q.len q.items (omega arith))
-          | no l ↦ (let k : n ≡ q.len = omega arith in rw k)
-        ]
+    go : (b : Bool) → counted_of q ≡ b → false ≡ counted_of q
+    go true w = absurd (other_text q.counts found e (counted_one q.counts found (entries q) eight m (counted_is q w) h))
+    go false w = sym w

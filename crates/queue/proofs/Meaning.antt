@@ -1,5 +1,5 @@
 -- The queue means the list of its entries: what each result's entries are, and laws of the lists.
-use Rattle.std.proofs.Common.{◌≡◌, ℕ, zero, suc, ◌+◌, ◌-◌, ◌<◌, ◌≤◌, Bool, true, false, eqb, ltb, ◌≢◌, List, [], ◌∷◌, ◌++◌, length, get_or, take, replicate, sym, refl, ◌∙◌, ⊎_elim, add-one, arith, length-append, length-set, length-take, length-take-le, ext_get_or, ltb-true, le-ltb, lt-ltb, eq-eqb, eqb-true}
+use Rattle.std.proofs.Common.{◌≡◌, ℕ, zero, suc, ◌+◌, ◌-◌, ◌<◌, ◌≤◌, Bool, true, false, eqb, ltb, List, [], ◌∷◌, ◌++◌, length, get_or, replicate, sym, refl, ◌∙◌, ⊎_elim, arith, length-append, length-set, length-take, length-take-le, ext_get_or, ltb-true, le-ltb, lt-ltb, eq-eqb, eqb-true}
 use lib.Seq.{take-append_seam}
 use native.Mathlib.Decide.{dec_lt}
 use Rattle.basis.proofs.Laws.{either_is, either_left, either_right, every_is, every_of}
@@ -9,43 +9,16 @@ use Rattle.queue.proofs.Lists.{length_pad, pad, pad_at, past_at, take_at_in, tak
 use Rattle.queue.specs.Entries.{All, Places, cleared, entries, entries_of, front_of, holding, lowered, others, padded_of, popped, pushed, raised, removal, rest}
 use Rattle.queue.specs.declared.Queue.{Queue}
 
--- front_of and rest
-pub front_cons : (x : ℕ) (l : List ℕ) → front_of (x ∷ l) ≡ x
+-- what stands first, or nobody
+pub front_at : (l : List ℕ) (r : ℕ) → r ≡ get_or l 0 nobody → r ≡ front_of l
 unfolding front_of
-front_cons x l = refl
-
-pub front_nil : front_of [] ≡ nobody
-unfolding front_of
-front_nil = refl
-
--- the front of the first n elements
-pub front_none : (l : List ℕ) (n r : ℕ) → n ≡ 0 → r ≡ nobody → r ≡ front_of (take n l)
-unfolding front_of
-front_none l n r e f = rw e f
-
-pub front_some : (l : List ℕ) (n r : ℕ) → length l ≡ 16 → n ≢ 0 → r ≡ get_or l 0 0 → r ≡ front_of (take n l)
-unfolding front_of
-front_some [] n r s h e = absurd (omega arith)
-front_some (x ∷ l) zero r s h e = absurd (h refl)
-front_some (x ∷ l) (suc n) r s h e = e
-
-pub rest_cons : (x : ℕ) (l : List ℕ) → rest (x ∷ l) ≡ l
-unfolding rest
-rest_cons x l = refl
-
-pub rest_nil : rest [] ≡ []
-unfolding rest
-rest_nil = refl
+front_at [] r e = e
+front_at (x ∷ l) r e = e
 
 pub rest_length : (l : List ℕ) → length (rest l) ≡ length l - 1
 unfolding rest
 rest_length [] = refl
 rest_length (x ∷ l) = omega arith
-
-pub rest_at : (l : List ℕ) (k : ℕ) → get_or (rest l) k 0 ≡ get_or l (k + 1) 0
-unfolding rest
-rest_at [] k = refl
-rest_at (x ∷ l) k = rw add-one
 
 -- others
 -- A8: the entries are those that stay and those of v

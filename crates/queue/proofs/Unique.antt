@@ -26,8 +26,8 @@ queue_pushed_one κs a x y s t p q = p ∙ sym q
 pub queue_without_one : OneAnswer 0 without-kinds.ps without-kinds.r without-reads.Post
 queue_without_one κs a x y s t p q = p ∙ sym q
 
-pub queue_padded_one : OneAnswer 0 padded-kinds.ps padded-kinds.r padded-reads.Post
+pub queue_padded_one : OneAnswer 1 padded-kinds.ps padded-kinds.r padded-reads.Post
 queue_padded_one κs a x y s t p q = p ∙ sym q
 
-pub queue_counted_one : OneAnswer 0 counted-kinds.ps counted-kinds.r counted-reads.Post
+pub queue_counted_one : OneAnswer 1 counted-kinds.ps counted-kinds.r counted-reads.Post
 queue_counted_one κs a x y s t p q = p ∙ sym q

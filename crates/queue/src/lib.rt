@@ -2,13 +2,10 @@
 // entries (W5), and counts that follow what was done (T10), whether those before were right or not.
 #![tactic(auto)]
 
-mod counts;
+ghost use Rattle.std.specs.Prelude.{◌≡◌, ◌≤◌, length, get_or, set};
+ghost use Rattle.queue.specs.Entries.{Counted, cleared, counted_of, entries, front_of, holding, no_entries, others, padded_of, popped, pushed, removal, served};
 
-ghost use Rattle.std.specs.Prelude.{◌≡◌, ◌+◌, ◌<◌, min, true, false, ◌==◌, nat_lt};
-ghost use Rattle.basis.specs.Choice.{pick};
-ghost use Rattle.queue.specs.Entries.{cleared, counted_of, entries, front_of, holding, no_entries, others, padded_of, popped, pushed, removal, served};
-
-use basis::tests::fault;
+use basis::places;
 
 // A queue of sixteen places: its first `len` are its entries (T5), and each VM's are counted (T10).
 #[repr(C)]
@@ -47,6 +44,27 @@ impl Queue {
         }
     }
 
+    // The queue of some entries, with zeros past them (W5), and these counts.
+    fn holding(entries: &[u8], counts: [u8; 8]) -> Queue
+        requires { length entries.now ≤ 16 }
+        ensures { result ≡ holding entries.now counts }
+    {
+        let mut items = [0; 16];
+        items[..entries.len()].copy_from_slice(entries);
+        Queue {
+            items,
+            len: entries.len() as u8,
+            counts,
+        }
+    }
+
+    // The entries, the oldest first (T5); no more than there are places.
+    fn entries(&self) -> &[u8]
+        ensures { result.now ≡ entries self.now }
+    {
+        &self.items[..self.len.min(Queue::PLACES) as usize]
+    }
+
     // Who is served at a tick, and what is left: at a spare tick the oldest entry leaves, if there is one (D7).
     pub fn served(self, spare: bool) -> Served
         ensures { result ≡ served spare self }
@@ -65,33 +83,22 @@ impl Queue {
     }
 
     // The oldest entry, or NOBODY.
-    fn front(self) -> u8
-        ensures { result ≡ front_of (entries self) }
+    fn front(&self) -> u8
+        ensures { result ≡ front_of (entries self.now) }
     {
-        if self.len == 0 {
-            return basis::NOBODY;
-        }
-        self.items[0]
+        places::at(self.entries(), 0, basis::NOBODY)
     }
 
-    // Each place takes what the next one has; where that is no entry, zero.
-    fn popped(self) -> Queue
-        ensures { result ≡ popped self }
+    // Without the oldest entry, if there is one (D7).
+    fn popped(&self) -> Queue
+        ensures { result ≡ popped self.now }
     {
-        let items = self.items;
-        let n = self.len;
-        let mut out: [u8; 16] = [0; 16];
-        let mut k: usize = 0;
-        while k < 15 {
-            out[k] = moved_up(k as u8, n, items[k + 1]);
-            k = k + 1;
-        }
-        let counts = self.counts;
-        let oldest = self.front();
-        Queue {
-            items: out,
-            len: counts::one_less(entry_count(n)),
-            counts: counts::lowered(counts, oldest),
+        match self.entries() {
+            [] => Queue::holding(&[], self.counts),
+            [oldest, left @ ..] => Queue::holding(
+                left,
+                self.with_count(*oldest, self.count(*oldest).saturating_sub(1)),
+            ),
         }
     }
 
@@ -99,23 +106,14 @@ impl Queue {
     pub fn pushed(self, v: u8) -> Queue
         ensures { result ≡ pushed v self }
     {
-        let n = self.len;
-        if n < Queue::PLACES {
-            let items = self.items;
-            let mut out: [u8; 16] = [0; 16];
-            let mut k: usize = 0;
-            while k < 16 {
-                out[k] = or_joined(k as u8, n, items[k], v);
-                k = k + 1;
-            }
-            let counts = self.counts;
-            return Queue {
-                items: out,
-                len: n + 1,
-                counts: counts::raised(counts, v),
-            };
+        if self.len >= Queue::PLACES {
+            return self;
         }
-        self
+        let counts = self.with_count(v, self.count(v).wrapping_add(1));
+        let mut longer = Queue::holding(self.entries(), counts);
+        longer.items[self.len as usize] = v;
+        longer.len += 1;
+        longer
     }
 
     // Without the entries for v, and how many those were (D14, D18, A8): as many as it is shorter.
@@ -123,110 +121,81 @@ impl Queue {
         ensures { result ≡ removal v self }
     {
         let rest = self.others(v);
-        let before = entry_count(self.len);
+        let before = self.entries().len() as u8;
         let count = before - rest.len;
-        Removal {
-            queue: rest,
-            count: count,
-        }
+        Removal { queue: rest, count }
     }
 
     // The entries that are not for v, in their order.
-    fn others(self, v: u8) -> Queue
-        ensures { result ≡ holding (others v (entries self)) (cleared v self.counts) }
+    fn others(&self, v: u8) -> Queue
+        ensures { result ≡ holding (others v (entries self.now)) (cleared v self.now.counts) }
     {
-        let items = self.items;
-        let len = self.len;
-        let mut out: [u8; 16] = [0; 16];
+        let entries = self.entries();
+        let mut items = [0; 16];
         let mut n: usize = 0;
-        let mut k: usize = 0;
-        while k < 16 {
-            if stays(k as u8, len, items[k], v) {
-                out[n] = items[k];
-                n = n + 1;
+        for &entry in entries {
+            if entry != v {
+                items[n] = entry;
+                n += 1;
             }
-            k = k + 1;
         }
-        let counts = self.counts;
         Queue {
-            items: out,
+            items,
             len: n as u8,
-            counts: counts::cleared(counts, v),
+            counts: self.with_count(v, 0),
         }
+    }
+
+    // How many entries the queue counts for v (T10).
+    fn count(&self, v: u8) -> u8
+        ensures { result ≡ get_or self.now.counts v 0 }
+    {
+        places::at(&self.counts, v as usize, 0)
+    }
+
+    // The counts, with n for v (T10); a number past the last VM has no count.
+    fn with_count(&self, v: u8, n: u8) -> [u8; 8]
+        ensures { result ≡ set self.now.counts v n }
+    {
+        let mut counts = self.counts;
+        let i = v as usize;
+        if i < 8 {
+            counts[i] = n;
+        }
+        counts
     }
 
     // W5: whether the places past the entries hold zero.
-    pub fn padded(self) -> bool
-        ensures { result ≡ padded_of self }
+    pub fn padded(&self) -> bool
+        ensures { result ≡ padded_of self.now }
     {
-        let items = self.items;
-        let n = self.len;
-        let mut bits: u8 = 0;
-        let mut k = entry_count(n) as usize;
-        while k < 16 {
-            bits = bits | items[k];
-            k = k + 1;
+        let past = &self.items[self.entries().len()..];
+        let mut padded = true;
+        for &item in past {
+            padded &= item == 0;
         }
-        bits == 0
+        padded
     }
 
     // W13: whether the counts are those of the entries.
-    pub fn counted(self) -> bool
-        ensures { result ≡ counted_of self }
+    pub fn counted(&self) -> bool
+        ensures { result ≡ counted_of self.now }
     {
-        let counts = self.counts;
-        let items = self.items;
-        let found = counts::counts_of(items, entry_count(self.len));
-        let mut bits: u8 = 0;
-        let mut k: usize = 0;
-        while k < 8 {
-            bits = bits | fault(counts[k] == found[k]);
-            k = k + 1;
+        self.counts == counts_of(self.entries())
+    }
+}
+
+// How many of some entries are each VM's (T10): none, and one more for each of them.
+fn counts_of(entries: &[u8]) -> [u8; 8]
+    requires { length entries.now ≤ 16 }
+    ensures { Counted result entries.now }
+{
+    let mut counts = [0u8; 8];
+    for &v in entries {
+        let i = v as usize;
+        if i < 8 {
+            counts[i] = counts[i].wrapping_add(1);
         }
-        bits == 0
     }
-}
-
-// What place k holds when the oldest of n entries has left; `next` is what place k + 1 held.
-fn moved_up(k: u8, n: u8, next: u8) -> u8
-    requires { k < 15 }
-    ensures { result ≡ pick (nat_lt (k + 1) n) next 0 }
-{
-    if k + 1 < n { next } else { 0 }
-}
-
-// How many entries a queue has whose `len` is n: no more than it has places.
-fn entry_count(n: u8) -> u8
-    ensures { result ≡ min n 16 }
-{
-    if Queue::PLACES < n {
-        return Queue::PLACES;
-    }
-    n
-}
-
-// What place k holds when v has joined at the place `end`, the first past the entries; x is what it held.
-fn or_joined(k: u8, end: u8, x: u8, v: u8) -> u8
-    ensures { result ≡ pick (nat_lt k end) x (pick (k == end) v 0) }
-{
-    if k < end {
-        return x;
-    }
-    if k == end {
-        return v;
-    }
-    0
-}
-
-// Whether place k, which holds x, is one of the n entries and not for v.
-fn stays(k: u8, n: u8, x: u8, v: u8) -> bool
-    ensures { result ≡ pick (nat_lt k n) (pick (x == v) false true) false }
-{
-    if k < n {
-        if x == v {
-            return false;
-        }
-        return true;
-    }
-    false
+    counts
 }

@@ -3,17 +3,17 @@ use Prim.Native.Nat.{suc, zero, ℕ, ◌*◌, ◌+◌, ◌-◌, ◌/◌, ◌<◌
 use borrow.Author.Tests.{eq-eqb, eqb-true, le-leb, leb-true, lt-ltb, ltb-true}
 use lib.Dec.{eqb, leb, ltb}
 use lib.ListN.{get_or}
-use mathlib.Core.Bool.{Bool, not, true}
+use mathlib.Core.Bool.{Bool, not, true, ◌&&◌}
 use mathlib.Core.List.{List}
 use mathlib.Core.Logic.{inl, inr, ◌⊎◌, ⊎_elim}
 use mathlib.Core.Path.{refl, subst, sym, ◌∙◌, ◌≡◌}
 use native.Mathlib.Decide.{dec_lt}
 use native.Mathlib.Omega.{arith}
-use Rattle.basis.proofs.Laws.{both_left, both_of, both_right, either_is, either_left, either_right, eqb_swap, every_is, every_of}
+use Rattle.basis.proofs.Laws.{and_both, both_left, both_of, both_right, either_is, either_left, either_right, eqb_swap, every_is, every_of}
 use Rattle.basis.specs.Choice.{both}
 use Rattle.basis.specs.Count.{every}
 use Rattle.regions.specs.Beside.{agrees_all, clear, follows}
-use Rattle.regions.specs.Rules.{alike_all, all_agree, apart, holder_at, last_at, may_write, permission_at, start_at}
+use Rattle.regions.specs.Rules.{alike_all, all_agree, apart, holder_at, last_at, may_write, permission_at, ranges_fit, start_at}
 use Rattle.regions.specs.declared.Regions.{Regions}
 
 pub clear_agrees : (r : Regions) (h p s l : ℕ) (b : Bool) → r.count ≤ 64 → b ≡ every (λ j. clear s l (start_at r j) (last_at r j)) r.count → b ≡ true
@@ -75,10 +75,11 @@ pairs_agree r f =
     (every_of _ r.count (λ i l. either_right (not (may_write (permission_at r i))) _
     (every_of _ r.count (λ j m. either_right (eqb (holder_at r i) (holder_at r j)) _ (f i j l m)))))
 
-pub order_agrees : (r : Regions) (a b t : Bool) → a ≡ every (λ k. leb (start_at r k) (last_at r k)) r.count
-    → b ≡ every (λ k. follows (start_at r k) (last_at r k) (start_at r (k + 1)) (last_at r (k + 1))) (r.count - 1) → t ≡ both a b → t ≡ true → true ≡ all_agree r
-order_agrees r a b t e f g h =
-    let all = sym g ∙ h in
+pub order_agrees : (r : Regions) (a b : Bool) → a ≡ ranges_fit r
+    → b ≡ every (λ k. follows (start_at r k) (last_at r k) (start_at r (k + 1)) (last_at r (k + 1))) (r.count - 1) → (a && b) ≡ true → true ≡ all_agree r
+unfolding ranges_fit
+order_agrees r a b e f h =
+    let all = sym (and_both a b) ∙ h in
     pairs_agree r (order_clear r.count r.starts r.lasts (sym e ∙ both_left a b all) (sym f ∙ both_right a b all))
 
 clear_swap : (s l s' l' : ℕ) → clear s l s' l' ≡ true → clear s' l' s l ≡ true

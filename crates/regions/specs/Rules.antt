@@ -3,6 +3,7 @@ use Rattle.std.specs.Prelude.{ℕ, ◌<◌, ◌≤◌, eqb, leb, ltb, get_or, re
 use Rattle.basis.specs.Bounds.{empty_rest, within}
 use Rattle.basis.specs.Choice.{both, either}
 use Rattle.basis.specs.Count.{every, how_many}
+use Rattle.regions.specs.declared.Region.{Region}
 use Rattle.regions.specs.declared.Regions.{Regions}
 
 -- regions by their parts
@@ -26,6 +27,10 @@ start_at r k = get_or r.starts k 0
 
 abbrev pub last_at : Regions → ℕ → ℕ
 last_at r k = get_or r.lasts k 0
+
+-- the region there
+abbrev pub region_at : Regions → ℕ → Region
+region_at r k = record { holder = holder_at r k; permission = permission_at r k; start = start_at r k; last = last_at r k }
 
 -- H1: 0 to 64 regions
 abbrev pub count_fits : Regions → Bool

@@ -1,19 +1,18 @@
-// The memory regions of a configuration: the struct, and the rules that they keep (H1 to H6).
-#![tactic(auto)]
+// The memory regions of a configuration: the structs, and the rules that they keep (H1 to H6).
+#![tactic(auto, using(basis::proofs::Laws::every_next, basis::proofs::Laws::every_end), unfolding(basis::specs::Count::every, crate::specs::Rules::lawful, crate::specs::Rules::kept, crate::specs::Rules::blank, crate::specs::Rules::bytes_rest, crate::specs::Rules::words_rest, crate::specs::Rules::holders_fit, crate::specs::Rules::permissions_fit, crate::specs::Rules::ranges_fit, crate::specs::Rules::few_each, crate::specs::Rules::alike_all, crate::specs::Beside::agrees_all))]
 
 mod overlap;
 mod rules;
 
-ghost use Rattle.std.specs.Prelude.{ltb, ◌≡◌};
-ghost use Rattle.basis.specs.Bounds.{empty_rest};
+ghost use Rattle.std.specs.Prelude.{leb, ltb, ◌<◌, ◌≡◌};
 ghost use Rattle.basis.specs.Choice.{both};
-ghost use Rattle.regions.specs.Rules.{blank, held, lawful, none};
+ghost use Rattle.regions.specs.Beside.{agrees_all};
+ghost use Rattle.regions.specs.Rules.{blank, held, lawful, none, region_at};
 
-use basis::tests::both;
-pub use overlap::agrees_all;
 pub use rules::is_known;
 
-// Regions in the order of their records (H1); what belongs to one region stands at the same place of each array.
+// Regions in the order of their records (H1); what belongs to one region stands at the same place of each array. They stay a count and
+// four arrays, and no list of `Region`s: the C interface, whose struct this is.
 #[repr(C)]
 #[derive(Clone, Copy)]
 pub struct Regions {
@@ -24,6 +23,15 @@ pub struct Regions {
     pub lasts: [u32; 64], // the last address of each region, which is in it
 }
 
+// One region, as its record has it (I15).
+#[derive(Clone, Copy)]
+pub struct Region {
+    pub holder: u8,
+    pub permission: u8,
+    pub start: u32,
+    pub last: u32,
+}
+
 impl Regions {
     // The limits of H1 and H5 (K1).
     pub const MOST: u8 = 64;
@@ -31,6 +39,7 @@ impl Regions {
     pub const EACH: u8 = 8;
 
     // The permissions (H3): a region is read; read and written; executed only. The ways of a query (H8) have the same numbers.
+    // They stay numbers, and no enum: the C interface, where any byte may stand in `permissions`.
     pub const READ: u8 = 1;
 
     pub const WRITE: u8 = 2;
@@ -50,62 +59,49 @@ impl Regions {
         }
     }
 
-    // Whether the regions keep H1 to H6 in a configuration of so many VMs.
-    pub fn lawful(self, vms: u8) -> bool
-        ensures { result ≡ lawful vms self }
+    // Whether the regions keep H1 to H6 in a configuration of so many VMs. Where there are none, only the places are left to look at.
+    pub fn lawful(&self, vms: u8) -> bool
+        ensures { result ≡ lawful vms self.now }
     {
-        let n = self.count;
-        if Regions::MOST < n {
-            return false;
+        if self.count == 0 {
+            return self.blank();
         }
-        let holders = self.holders;
-        let permissions = self.permissions;
-        let starts = self.starts;
-        let lasts = self.lasts;
-        rules::all_kept(vms, n, &holders, &permissions, &starts, &lasts)
+        self.count <= Regions::MOST && rules::all_kept(self, vms)
     }
 
-    // Whether all places hold zero: the same test (H1) where there are no regions. It lends nothing, so that nothing is copied.
-    pub fn blank(self) -> bool
-        ensures { result ≡ blank self }
+    // Whether all places hold zero (H1).
+    pub fn blank(&self) -> bool
+        ensures { result ≡ blank self.now }
     {
-        both(self.no_bytes(), self.no_words())
+        rules::bytes_rest(self, 0) & rules::words_rest(self, 0)
     }
 
-    // H1: whether no place has a holder or a permission.
-    fn no_bytes(self) -> bool
-        ensures { result ≡ both (empty_rest 0 self.holders) (empty_rest 0 self.permissions) }
+    // Whether there is a place for one more region of VM v (H1, H5).
+    pub fn has_room(&self, v: u8) -> bool
+        ensures { result ≡ both (ltb self.now.count 64) (ltb (held self.now.holders v self.now.count) 8) }
     {
-        let mut bits: u8 = 0;
-        let mut k: usize = 0;
-        while k < 64 {
-            bits = bits | (self.holders[k] | self.permissions[k]);
-            k = k + 1;
+        self.count < Regions::MOST && rules::held(v, self.count, &self.holders) < Regions::EACH
+    }
+
+    // H6: whether a new region agrees with all earlier ones; there are at most 64.
+    pub fn agrees_all(&self, region: Region) -> bool
+        ensures { result ≡ both (leb self.now.count 64) (agrees_all self.now region.holder region.permission region.start region.last) }
+    {
+        self.count <= Regions::MOST
+            && (overlap::clear_of_all(self, self.count as usize, region)
+                || overlap::agrees_each(self, region))
+    }
+
+    // The region at a place.
+    pub fn at(&self, k: usize) -> Region
+        requires { k < 64 }
+        ensures { result ≡ region_at self.now k }
+    {
+        Region {
+            holder: self.holders[k],
+            permission: self.permissions[k],
+            start: self.starts[k],
+            last: self.lasts[k],
         }
-        bits == 0
-    }
-
-    // H1: whether no place has an address.
-    fn no_words(self) -> bool
-        ensures { result ≡ both (empty_rest 0 self.starts) (empty_rest 0 self.lasts) }
-    {
-        let mut bits: u32 = 0;
-        let mut k: usize = 0;
-        while k < 64 {
-            bits = bits | (self.starts[k] | self.lasts[k]);
-            k = k + 1;
-        }
-        bits == 0
-    }
-}
-
-// Whether there is a place for one more region of VM v (H1, H5).
-pub fn has_room(v: u8, count: u8, holders: &[u8; 64]) -> bool
-    ensures { result ≡ both (ltb count 64) (ltb (held holders.now v count) 8) }
-{
-    if count < Regions::MOST {
-        rules::held(v, count, holders) < Regions::EACH
-    } else {
-        false
     }
 }

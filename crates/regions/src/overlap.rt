@@ -1,108 +1,61 @@
 // Regions that overlap (H6): all of a list beside each other, and a new one beside those of a list.
-ghost use Rattle.std.specs.Prelude.{◌*◌, ◌+◌, ◌-◌, ◌/◌, ◌≤◌, leb, get_or, not, ◌≡◌};
-ghost use Rattle.basis.specs.Choice.{both, either};
+ghost use Rattle.std.specs.Prelude.{◌*◌, ◌+◌, ◌-◌, ◌/◌, ◌≤◌, get_or, not, ◌≡◌};
+ghost use Rattle.basis.specs.Choice.{either};
 ghost use Rattle.basis.specs.Count.{every};
 ghost use Rattle.regions.specs.Beside.{agrees, agrees_all, clear, follows};
-ghost use Rattle.regions.specs.Rules.{alike_all, all_agree, listed, may_write};
+ghost use Rattle.regions.specs.Rules.{alike, alike_all, all_agree, last_at, may_write, ranges_fit, start_at};
 
-use crate::{Regions, rules};
-use basis::tests::{both, either, fault32};
+use crate::{Region, Regions, rules};
 
 // H6. Where H4 holds (`ordered`) and the regions stand in the order of their addresses, one walk tells that all is well. Where most
 // may be written, it is enough that no two ranges clash. Else each region that may be written is held against all.
-pub fn all_agree(
-    ordered: bool,
-    count: u8,
-    holders: &[u8; 64],
-    permissions: &[u8; 64],
-    starts: &[u32; 64],
-    lasts: &[u32; 64],
-) -> bool
-    requires { (count ≤ 64) × (ordered ≡ every (λ k. leb (get_or starts.now k 0) (get_or lasts.now k 0)) count) }
-    ensures { result ≡ all_agree (listed count holders.now permissions.now starts.now lasts.now) }
+pub fn all_agree(r: &Regions, ordered: bool) -> bool
+    requires { (r.now.count ≤ 64) × (ordered ≡ ranges_fit r.now) }
+    ensures { result ≡ all_agree r.now }
 {
-    let sorted = in_order(count, starts, lasts);
-    if both(ordered, sorted) {
+    if ordered & in_order(r) {
         return true;
     }
-    if count / 2 < rules::held(Regions::WRITE, count, permissions) {
-        if all_clear(count, starts, lasts) {
+    if r.count / 2 < rules::held(Regions::WRITE, r.count, &r.permissions) {
+        if all_clear(r) {
             return true;
         }
     }
-    each_agrees(count, holders, permissions, starts, lasts)
+    each_agrees(r)
 }
 
 // Whether no two regions overlap, but for regions of the same range. Each is held against those before it; places are taken by eight, so
 // that a walk needs no remainder, and those behind it that this adds are told twice.
-fn all_clear(count: u8, starts: &[u32; 64], lasts: &[u32; 64]) -> bool
-    requires { count ≤ 64 }
-    ensures { result ≡ every (λ i. every (λ j. clear (get_or starts.now i 0) (get_or lasts.now i 0) (get_or starts.now j 0) (get_or lasts.now j 0)) ((i / 8 + 1) * 8)) count }
+fn all_clear(r: &Regions) -> bool
+    requires { r.now.count ≤ 64 }
+    ensures { result ≡ every (λ i. every (λ j. clear (start_at r.now i) (last_at r.now i) (start_at r.now j) (last_at r.now j)) ((i / 8 + 1) * 8)) r.now.count }
 {
-    let n = count as usize;
     let mut ok = true;
-    let mut i: usize = 0;
-    while i < n {
-        ok = both(
-            clear_of_all((i / 8 + 1) * 8, starts, lasts, starts[i], lasts[i]),
-            ok,
-        );
-        i = i + 1;
+    for i in 0..r.count as usize {
+        ok &= clear_of_all(r, (i / 8 + 1) * 8, r.at(i));
     }
     ok
 }
 
 // Whether each region is behind the one before it, or has the same range.
-fn in_order(count: u8, starts: &[u32; 64], lasts: &[u32; 64]) -> bool
-    requires { count ≤ 64 }
-    ensures { result ≡ every (λ k. follows (get_or starts.now k 0) (get_or lasts.now k 0) (get_or starts.now (k + 1) 0) (get_or lasts.now (k + 1) 0)) (count - 1) }
+fn in_order(r: &Regions) -> bool
+    requires { r.now.count ≤ 64 }
+    ensures { result ≡ every (λ k. follows (start_at r.now k) (last_at r.now k) (start_at r.now (k + 1)) (last_at r.now (k + 1))) (r.now.count - 1) }
 {
-    if count < 1 {
-        return true;
+    let mut ok = true;
+    for k in 0..r.count.saturating_sub(1) as usize {
+        ok &= r.at(k + 1).is_behind(r.at(k));
     }
-    let n = (count - 1) as usize;
-    let mut bits: u32 = 0;
-    let mut k: usize = 0;
-    while k < n {
-        let j = k + 1;
-        bits = bits | fault32(is_behind(starts[k], lasts[k], starts[j], lasts[j]));
-        k = j;
-    }
-    bits == 0
-}
-
-fn is_behind(start: u32, last: u32, start2: u32, last2: u32) -> bool
-    ensures { result ≡ follows start last start2 last2 }
-{
-    either(last < start2, both(start == start2, last == last2))
+    ok
 }
 
 // H6: each region that may be written, beside every one.
-fn each_agrees(
-    count: u8,
-    holders: &[u8; 64],
-    permissions: &[u8; 64],
-    starts: &[u32; 64],
-    lasts: &[u32; 64],
-) -> bool
-    requires { count ≤ 64 }
-    ensures { result ≡ all_agree (listed count holders.now permissions.now starts.now lasts.now) }
+fn each_agrees(r: &Regions) -> bool
+    requires { r.now.count ≤ 64 }
+    ensures { result ≡ all_agree r.now }
 {
-    let n = count as usize;
-    let mut i: usize = 0;
-    while i < n {
-        if one_agrees(
-            count,
-            holders,
-            starts,
-            lasts,
-            permissions[i],
-            holders[i],
-            starts[i],
-            lasts[i],
-        ) {
-            i = i + 1;
-        } else {
+    for i in 0..r.count as usize {
+        if !one_agrees(r, r.at(i)) {
             return false;
         }
     }
@@ -110,163 +63,79 @@ fn each_agrees(
 }
 
 // One region beside every one.
-fn one_agrees(
-    count: u8,
-    holders: &[u8; 64],
-    starts: &[u32; 64],
-    lasts: &[u32; 64],
-    permission: u8,
-    holder: u8,
-    start: u32,
-    last: u32,
-) -> bool
-    requires { count ≤ 64 }
-    ensures { result ≡ either (not (may_write permission)) (alike_all count holders.now starts.now lasts.now holder start last) }
+fn one_agrees(r: &Regions, region: Region) -> bool
+    requires { r.now.count ≤ 64 }
+    ensures { result ≡ either (not (may_write region.permission)) (alike_all r.now.count r.now.holders r.now.starts r.now.lasts region.holder region.start region.last) }
 {
-    if permission == Regions::WRITE {
-        alike_all(count, holders, starts, lasts, holder, start, last)
-    } else {
-        true
-    }
-}
-
-// Whether none of the first n regions overlaps this one, but for regions of the same range.
-fn clear_of_all(n: usize, starts: &[u32; 64], lasts: &[u32; 64], start: u32, last: u32) -> bool
-    requires { n ≤ 64 }
-    ensures { result ≡ every (λ j. clear start last (get_or starts.now j 0) (get_or lasts.now j 0)) n }
-{
-    let mut bits: u32 = 0;
-    let mut k: usize = 0;
-    while k < n {
-        bits = bits | fault32(is_clear(start, last, starts[k], lasts[k]));
-        k = k + 1;
-    }
-    bits == 0
-}
-
-// Two ranges: they are apart, or the same.
-fn is_clear(start: u32, last: u32, start2: u32, last2: u32) -> bool
-    ensures { result ≡ clear start last start2 last2 }
-{
-    let apart = either(last2 < start, last < start2);
-    let same = both(start == start2, last == last2);
-    either(apart, same)
+    region.permission != Regions::WRITE || alike_all(r, region)
 }
 
 // A region that may be written, beside all regions.
-fn alike_all(
-    count: u8,
-    holders: &[u8; 64],
-    starts: &[u32; 64],
-    lasts: &[u32; 64],
-    holder: u8,
-    start: u32,
-    last: u32,
-) -> bool
-    requires { count ≤ 64 }
-    ensures { result ≡ alike_all count holders.now starts.now lasts.now holder start last }
+fn alike_all(r: &Regions, region: Region) -> bool
+    requires { r.now.count ≤ 64 }
+    ensures { result ≡ alike_all r.now.count r.now.holders r.now.starts r.now.lasts region.holder region.start region.last }
 {
-    let n = count as usize;
     let mut ok = true;
-    let mut k: usize = 0;
-    while k < n {
-        ok = both(
-            either(
-                holder == holders[k],
-                is_clear(start, last, starts[k], lasts[k]),
-            ),
-            ok,
-        );
-        k = k + 1;
+    for k in 0..r.count as usize {
+        ok &= region.is_alike(r.at(k));
     }
     ok
 }
 
-// H6: a new region beside all earlier ones; there are at most 64.
-pub fn agrees_all(
-    count: u8,
-    holders: &[u8; 64],
-    permissions: &[u8; 64],
-    starts: &[u32; 64],
-    lasts: &[u32; 64],
-    holder: u8,
-    permission: u8,
-    start: u32,
-    last: u32,
-) -> bool
-    ensures { result ≡ both (leb count 64) (agrees_all (listed count holders.now permissions.now starts.now lasts.now) holder permission start last) }
+// Whether none of the first n regions overlaps this one, but for regions of the same range.
+pub fn clear_of_all(r: &Regions, n: usize, region: Region) -> bool
+    requires { n ≤ 64 }
+    ensures { result ≡ every (λ j. clear region.start region.last (start_at r.now j) (last_at r.now j)) n }
 {
-    if Regions::MOST < count {
-        return false;
-    }
-    if clear_of_all(count as usize, starts, lasts, start, last) {
-        return true;
-    }
-    agrees_each(
-        count,
-        holders,
-        permissions,
-        starts,
-        lasts,
-        holder,
-        permission,
-        start,
-        last,
-    )
-}
-
-fn agrees_each(
-    count: u8,
-    holders: &[u8; 64],
-    permissions: &[u8; 64],
-    starts: &[u32; 64],
-    lasts: &[u32; 64],
-    holder: u8,
-    permission: u8,
-    start: u32,
-    last: u32,
-) -> bool
-    requires { count ≤ 64 }
-    ensures { result ≡ agrees_all (listed count holders.now permissions.now starts.now lasts.now) holder permission start last }
-{
-    let n = count as usize;
     let mut ok = true;
-    let mut k: usize = 0;
-    while k < n {
-        ok = both(
-            agrees(
-                permission,
-                holder,
-                start,
-                last,
-                permissions[k],
-                holders[k],
-                starts[k],
-                lasts[k],
-            ),
-            ok,
-        );
-        k = k + 1;
+    for k in 0..n {
+        ok &= region.is_clear(r.at(k));
     }
     ok
 }
 
-// A new region beside an earlier one.
-fn agrees(
-    permission: u8,
-    holder: u8,
-    start: u32,
-    last: u32,
-    permission2: u8,
-    holder2: u8,
-    start2: u32,
-    last2: u32,
-) -> bool
-    ensures { result ≡ agrees permission holder start last permission2 holder2 start2 last2 }
+// A new region, beside each earlier one.
+pub fn agrees_each(r: &Regions, region: Region) -> bool
+    requires { r.now.count ≤ 64 }
+    ensures { result ≡ agrees_all r.now region.holder region.permission region.start region.last }
 {
-    let kept = both(permission != Regions::WRITE, permission2 != Regions::WRITE);
-    either(
-        kept,
-        either(holder == holder2, is_clear(start, last, start2, last2)),
-    )
+    let mut ok = true;
+    for k in 0..r.count as usize {
+        ok &= region.agrees(r.at(k));
+    }
+    ok
+}
+
+impl Region {
+    // A new region beside an earlier one.
+    fn agrees(self, other: Region) -> bool
+        ensures { result ≡ agrees self.permission self.holder self.start self.last other.permission other.holder other.start other.last }
+    {
+        let kept = (self.permission != Regions::WRITE) & (other.permission != Regions::WRITE);
+        kept | self.is_alike(other)
+    }
+
+    // A region that may be written beside another one: of the same VM, or clear of it.
+    fn is_alike(self, other: Region) -> bool
+        ensures { result ≡ alike self.holder self.start self.last other.holder other.start other.last }
+    {
+        (self.holder == other.holder) | self.is_clear(other)
+    }
+
+    // Two ranges: they are apart, or the same.
+    fn is_clear(self, other: Region) -> bool
+        ensures { result ≡ clear self.start self.last other.start other.last }
+    {
+        let apart = (other.last < self.start) | (self.last < other.start);
+        let same = (self.start == other.start) & (self.last == other.last);
+        apart | same
+    }
+
+    // This range is behind the other, or the same.
+    fn is_behind(self, other: Region) -> bool
+        ensures { result ≡ follows other.start other.last self.start self.last }
+    {
+        let same = (other.start == self.start) & (other.last == self.last);
+        (other.last < self.start) | same
+    }
 }

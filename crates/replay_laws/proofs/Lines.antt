@@ -11,6 +11,7 @@ use Rattle.event.specs.declared.Event.{Event}
 use Rattle.events.proofs.Theorems.{end_is, take_inside}
 use Rattle.events.specs.Reader.{read_at}
 use Rattle.events.specs.declared.Next.TheVariants.{End, Refuse, Take}
+use Rattle.events.specs.declared.Refusal.{Refusal}
 use Rattle.events.specs.declared.Next.{Next}
 use Rattle.lines.specs.Text.{cut_text}
 use Rattle.replay.specs.Run.{Stepping, lines_by, log_text, onward}
@@ -51,6 +52,6 @@ module _ (f : Stepping) (states : Bool) (s : List ℕ) where
   log_end c at n q = rw q
 
   -- N7
-  pub log_cut : (c : Core) (at n r o : ℕ) → read_at s at ≡ Refuse r o → log_text f states s c at n ≡ cut_text n
+  pub log_cut : (c : Core) (at n : ℕ) (r : Refusal) (o : ℕ) → read_at s at ≡ Refuse r o → log_text f states s c at n ≡ cut_text n
   unfolding lines_by onward
   log_cut c at n r o q = rw q

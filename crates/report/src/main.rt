@@ -20,14 +20,12 @@ fn counted(rt: &HostRuntime, image: &[u8], log: &mut [u8]) -> Tally
     ensures { OfLogs image.now 16 result }
 {
     let mut t = Tally::none();
-    let mut k: u8 = 0;
-    while k < Tally::LOGS {
+    for k in 0..Tally::LOGS {
         let name = tally_text::log_name(k);
         let Some(n) = console::read_opened(rt, &name, log) else {
             return t;
         };
         t = t.with_log(image, &log[..n]);
-        k = k + 1;
     }
     t
 }

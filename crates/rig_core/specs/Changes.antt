@@ -3,11 +3,13 @@ use Rattle.std.specs.Prelude.{ℕ}
 use Rattle.change.specs.Changes.{ending_from, failing_from, queueing_from, renewed_from, restarting_from}
 use Rattle.change.specs.declared.Change.{Change}
 use Rattle.change.specs.declared.Notice.{Notice}
-use Rattle.config.specs.Sizes.{entry_at}
-use Rattle.rig_core.specs.State.{address_of, with_queue, with_running, with_vm}
+use Rattle.config.specs.Sizes.{entry_at, handler_at}
+use Rattle.rig_core.specs.State.{address_of, full, vm_at, with_queue, with_running, with_vm}
 use Rattle.rig_core.specs.declared.Core.{Core}
 use Rattle.rig_core.specs.declared.Stepped.{Stepped}
+use Rattle.event.specs.declared.Event.{Event}
 use Rattle.guest.specs.declared.Vm.{Vm}
+use Rattle.logic.specs.Changing.{change_from}
 use Rattle.queue.specs.declared.Queue.{Queue}
 
 -- A1, A2: the VM and its address are those after the event; it is done, so its refusal number is 0 (R6)
@@ -41,3 +43,7 @@ restarting c v = restarting_from c.running c.queue v (entry_at c.config v)
 -- D20
 abbrev pub queueing : Core → ℕ → Vm → Change
 queueing c = queueing_from c.running c.queue
+
+-- what an event makes of the VM at place v
+abbrev pub change_at : Core → Event → ℕ → Change
+change_at c e v = change_from e v (vm_at c v) c.running c.queue (full c) 0 (entry_at c.config v) (handler_at c.config v)

@@ -23,8 +23,7 @@ use Rattle.queue.specs.declared.Queue.{Queue}
 use Rattle.table.specs.Position.{next_clock, started_clock}
 use Rattle.table.specs.declared.Clock.{Clock}
 use Rattle.vms.specs.Records.{started_all}
-use Rattle.vms.specs.Tick.{turn}
-use Rattle.vms.specs.declared.Turn.{Turn}
+use Rattle.vms.specs.Tick.{Turn, turn}
 use Rattle.window.specs.declared.Pieces.{Pieces}
 use Rattle.window.specs.declared.Window.{Window}
 

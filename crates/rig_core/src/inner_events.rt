@@ -1,241 +1,127 @@
-// The inner events: an event on a state that the caller knows to be sound. They do not test that, and are total all the same.
-// They give the parts of the state that an event may change: the configuration is not among them.
-ghost use Rattle.std.specs.Prelude.{eqb, ◌≡◌};
-ghost use Rattle.basis.specs.Choice.{pick};
-ghost use Rattle.basis.specs.Nobody.{nobody};
-ghost use Rattle.change.specs.Changes.{renewed_from};
+// The inner events: an event on a core that the caller knows to be sound, changed where it stands. They do not test that, and are total all the same.
+ghost use Rattle.std.specs.Prelude.{◌≡◌};
+ghost use Rattle.logic.specs.Changing.{place_from};
+ghost use Rattle.rig_core.specs.Changes.{change_at, changed_by};
 ghost use Rattle.rig_core.specs.Events.{done, inner_of};
-ghost use Rattle.rig_core.specs.Parts.{change_in, kept, parts_of};
-ghost use Rattle.logic.specs.Changing.{change_from};
 
-use crate::{After, Core, Stepped};
+use crate::{Core, Stepped};
 use basis::places;
 use change::{Answer, Change};
-use checks::rows;
 use config::Config;
+use copies::Failure;
 use event::Event;
-use guest::Vm;
-use queue::Queue;
 use window::{Pieces, Window};
 
 impl Core {
-    // Any event.
-    pub fn after(self, e: Event) -> After
-        ensures { result ≡ parts_of (inner_of self e) }
+    // Any event: refused by its row (R1), and then nothing changes (R2), or done.
+    pub fn apply(&mut self, e: Event) -> Answer
+        ensures core { self.new ≡ (inner_of self.old e).core }
+        ensures answer { result ≡ (inner_of self.old e).answer }
     {
+        let place = logic::place_of(e, self.running);
+        let ready = vms::vm_at(&self.vms, place).is_ready();
+        let row = logic::row_of(
+            e,
+            self.clock.started,
+            self.config.count,
+            self.running,
+            ready,
+            self.config.room,
+            self.queue.len,
+        );
+        if row != 0 {
+            return self.refusal(row);
+        }
         match e {
-            Event::Start => self.start_after(),
-            Event::Tick(at) => self.tick_after(at),
-            Event::Copy(p, w) => self.copy_after(p, w),
-            _ => self.change_after(e),
+            Event::Start => self.begin(),
+            Event::Tick(at) => self.move_on(at),
+            Event::Copy(p, w) => self.move_bytes(p, w),
+            _ => self.change(e),
         }
     }
 
-    // A refusal with n, which is not 1: the state as it was (R2, R3).
-    pub fn kept(self, n: u8) -> After
-        ensures { result ≡ kept self n }
+    // The same by value.
+    pub fn inner(self, e: Event) -> Stepped
+        ensures { result ≡ inner_of self e }
     {
-        let vms = self.vms;
-        let clock = self.clock;
-        let queue = self.queue;
-        let runs = vms::vm_at(vms, self.running);
-        After {
-            vms: vms,
-            clock: clock,
-            running: self.running,
-            queue: queue,
-            answer: Answer::quiet(n, self.running, runs.address),
-        }
-    }
-
-    fn start_after(self) -> After
-        ensures { result ≡ parts_of (inner_of self Event.Start) }
-    {
-        let n = rows::of_start(self.clock.started);
-        if n == 0 {
-            self.start_done()
-        } else {
-            self.kept(n)
-        }
-    }
-
-    fn tick_after(self, at: u32) -> After
-        ensures { result ≡ parts_of (inner_of self (Event.Tick at)) }
-    {
-        let n = rows::of_tick(self.clock.started);
-        if n == 0 {
-            self.tick_done(at)
-        } else {
-            self.kept(n)
-        }
-    }
-
-    // A Copy but for its bytes, on a state that the caller knows to be sound; as `inner`, by the Copy's own function.
-    pub fn copy_whole(self, p: Pieces, w: Window) -> Stepped
-        ensures { result ≡ inner_of self (Event.Copy p w) }
-    {
-        let config = self.config;
-        let t = self.copy_after(p, w);
-        t.with_config(config)
-    }
-
-    fn copy_after(self, p: Pieces, w: Window) -> After
-        ensures { result ≡ parts_of (inner_of self (Event.Copy p w)) }
-    {
-        let n = rows::of_running(self.clock.started, self.running);
-        if n == 0 {
-            self.copy_done(p, w)
-        } else {
-            self.kept(n)
-        }
+        let mut core = self;
+        let answer = core.apply(e);
+        Stepped { core, answer }
     }
 
     // D1, D2.
-    fn start_done(self) -> After
-        ensures { result ≡ parts_of (done self Event.Start) }
+    fn begin(&mut self) -> Answer
+        ensures core { self.new ≡ (done self.old Event.Start).core }
+        ensures answer { result ≡ (done self.old Event.Start).answer }
     {
-        let config = self.config;
-        let entries = config.entries;
-        let queue = self.queue;
-        let old = self.vms;
-        let vms = vms::started(old, config.count, &entries);
-        let runs = vms::vm_at(vms, self.running);
-        After {
-            vms: vms,
-            clock: self.clock.started(),
-            running: self.running,
-            queue: queue,
-            answer: Answer::quiet(0, self.running, runs.address),
-        }
+        vms::start_all(&mut self.vms, self.config.count, &self.config.entries);
+        self.clock = self.clock.started();
+        Answer::quiet(0, self.running, self.address())
     }
 
     // D3 to D9.
-    fn tick_done(self, at: u32) -> After
-        ensures { result ≡ parts_of (done self (Event.Tick at)) }
+    fn move_on(&mut self, at: u32) -> Answer
+        ensures core { self.new ≡ (done self.old (Event.Tick at)).core }
+        ensures answer { result ≡ (done self.old (Event.Tick at)).answer }
     {
-        let config = self.config;
-        let owners = config.owners;
-        let durations = config.durations;
-        let handlers = config.handlers;
-        let queue = self.queue;
-        let clock = self.clock.next(config.slots, &durations);
-        let owner = table::owner_at(clock.slot, &owners);
-        let served = queue.served(owner == Config::SPARE);
-        let old = self.vms;
-        let t = vms::turned(
-            old,
-            self.running,
-            at,
-            config.count,
-            owner,
-            served.vm,
-            clock.left as u32,
-            &handlers,
-        );
-        let vms = t.vms;
-        let rest = served.queue;
-        let mut told = Answer::quiet(0, t.who, t.address);
-        told.delivered = t.number;
-        After {
-            vms: vms,
-            clock: clock,
-            running: t.who,
-            queue: rest,
-            answer: told,
-        }
+        vms::save(&mut self.vms, self.running, at);
+        vms::age_all(&mut self.vms, self.config.count);
+        self.clock = self.clock.next(self.config.slots, &self.config.durations);
+        let owner = table::owner_at(self.clock.slot, &self.config.owners);
+        let served = self.queue.served(owner == Config::SPARE);
+        let ready = vms::vm_at(&self.vms, owner).is_ready();
+        let who = vms::runner(owner, served.vm, ready);
+        let vm = vms::vm_at(&self.vms, who);
+        let handler = places::at(&self.config.handlers, who as usize, 0);
+        let left = self.clock.left as u32;
+        let turn = Change::ticking(who, vm, served.queue, left, handler);
+        self.settle(turn)
     }
 
     // D31 to D36, but for the bytes: they are not part of the state (D37).
-    fn copy_done(self, p: Pieces, w: Window) -> After
-        ensures { result ≡ parts_of (done self (Event.Copy p w)) }
+    fn move_bytes(&mut self, p: Pieces, w: Window) -> Answer
+        ensures core { self.new ≡ (done self.old (Event.Copy p w)).core }
+        ensures answer { result ≡ (done self.old (Event.Copy p w)).answer }
     {
-        let regions = self.config.regions;
-        let clock = self.clock;
-        let queue = self.queue;
         let v = self.running;
-        let vms = self.vms;
-        let vm = vms::vm_at(vms, v);
-        let f = copies::failure_of(regions, v, w, p);
-        let d = Change::copying(v, vm.saved(p.next), v, queue, f.code, f.detail);
-        let y = d.vm;
-        let rest = d.queue;
-        let after = vms::with_vm(vms, v, y);
-        let runs = vms::vm_at(after, d.running);
-        After {
-            vms: after,
-            clock: clock,
-            running: d.running,
-            queue: rest,
-            answer: d.answer(0, d.running, runs.address),
-        }
+        let saved = vms::vm_at(&self.vms, v).saved(p.next);
+        let failure = Failure::told(copies::failure_of(&self.config.regions, v, w, p));
+        let change = Change::copying(v, saved, v, self.queue, failure.code, failure.detail);
+        self.settle(change)
     }
 
-    // D14 to D30: the other events that are about one VM, read and stored at its number modulo 8, with no branch over the records.
-    fn change_after(self, e: Event) -> After
-        ensures { result ≡ parts_of (change_in self e) }
+    // D14 to D30: the other events, which are about one VM.
+    fn change(&mut self, e: Event) -> Answer
+        ensures core { self.new ≡ (changed_by self.old (change_at self.old e (place_from e self.old.running))).core }
+        ensures answer { result ≡ (changed_by self.old (change_at self.old e (place_from e self.old.running))).answer }
     {
-        let config = self.config;
-        let entries = config.entries;
-        let handlers = config.handlers;
-        let running = self.running;
-        let stands = self.clock;
-        let queue = made_again(self.queue);
-        let count = config.count;
-        let room = config.room;
-        let mut w = self.vms;
-        let place = logic::place_of(e, running);
-        let i = (place % 8) as usize;
-        let old = w[i];
-        let vm = old.or_fresh(place < 8);
-        let ready = vm.is_ready();
-        let n = logic::row_of(e, stands.started, count, running, ready, room, queue.len);
-        let full = room <= queue.len;
-        let entry = places::word_at(&entries, place as usize);
-        let handler = places::word_at(&handlers, place as usize);
-        let d = change_unless(n, e, place, vm, running, queue, full, entry, handler);
-        let y = d.vm;
-        w[i] = y.or_kept(place < 8, old);
-        let runs = w[(d.running % 8) as usize];
-        let rest = d.queue;
-        After {
-            vms: w,
-            clock: stands,
-            running: d.running,
-            queue: rest,
-            answer: d.answer(n, d.running, vms::if_vm(d.running, runs.address)),
-        }
+        let place = logic::place_of(e, self.running);
+        let vm = vms::vm_at(&self.vms, place);
+        let full = self.config.room <= self.queue.len;
+        let entry = places::at(&self.config.entries, place as usize, 0);
+        let handler = places::at(&self.config.handlers, place as usize, 0);
+        let change = logic::change_of(
+            e,
+            place,
+            vm,
+            self.running,
+            self.queue,
+            full,
+            0,
+            entry,
+            handler,
+        );
+        self.settle(change)
     }
-}
 
-// What an event that is not refused makes of the VM at its place; a refused one makes nothing of it (R2).
-fn change_unless(
-    n: u8,
-    e: Event,
-    place: u8,
-    vm: Vm,
-    running: u8,
-    queue: Queue,
-    full: bool,
-    entry: u32,
-    handler: u32,
-) -> Change
-    ensures { result ≡ pick (eqb n 0) (change_from e place vm running queue full 0 entry handler) (renewed_from running queue place vm nobody) }
-{
-    if n == 0 {
-        return logic::change_of(e, place, vm, running, queue, full, 0, entry, handler);
-    }
-    Change::renewed(place, vm, running, queue, Answer::NOTHING)
-}
-
-// The same queue, made of its parts: in a place of its own, so that no call is lent a part of the state, which would then be copied whole.
-fn made_again(q: Queue) -> Queue
-    ensures { result ≡ q }
-{
-    let items = q.items;
-    let counts = q.counts;
-    Queue {
-        items: items,
-        len: q.len,
-        counts: counts,
+    // A change made: the record at its place (K2), who runs, the queue.
+    fn settle(&mut self, d: Change) -> Answer
+        ensures core { self.new ≡ (changed_by self.old d).core }
+        ensures answer { result ≡ (changed_by self.old d).answer }
+    {
+        vms::put_vm(&mut self.vms, d.place, d.vm);
+        self.running = d.running;
+        self.queue = d.queue;
+        d.answer(0, self.running, self.address())
     }
 }

@@ -5,10 +5,9 @@ mod inner_events;
 mod public_events;
 
 ghost use Rattle.std.specs.Prelude.{◌≡◌};
-ghost use Rattle.rig_core.specs.Parts.{rejoined};
 ghost use Rattle.rig_core.specs.Refusals.{refused};
 ghost use Rattle.rig_core.specs.Sound.{sound};
-ghost use Rattle.rig_core.specs.State.{fresh_core};
+ghost use Rattle.rig_core.specs.State.{address_of, fresh_core};
 
 use change::Answer;
 use checks::sound;
@@ -36,86 +35,41 @@ pub struct Stepped {
     pub answer: Answer,
 }
 
-// The parts of a state that an event may change, with the answer.
-#[derive(Clone, Copy)]
-pub struct After {
-    pub vms: [Vm; 8],
-    pub clock: Clock,
-    pub running: u8,
-    pub queue: Queue,
-    pub answer: Answer,
-}
-
-impl After {
-    // The state that has these parts, and the configuration, which no event changes.
-    pub fn with_config(self, config: Config) -> Stepped
-        ensures { result ≡ rejoined config self }
-    {
-        let vms = self.vms;
-        let clock = self.clock;
-        let queue = self.queue;
-        let answer = self.answer;
-        Stepped {
-            core: Core {
-                config: config,
-                clock: clock,
-                running: self.running,
-                queue: queue,
-                vms: vms,
-            },
-            answer: answer,
-        }
-    }
-}
-
 impl Core {
     // The fresh core of a configuration (T6), by an associated constructor (K1). Built from an illegal one, it is not sound (T7).
     pub fn fresh(config: Config) -> Core
         ensures { result ≡ fresh_core config }
     {
-        let none = Vm::fresh();
-        let queue = Queue::empty();
-        let clock = Clock::fresh();
         Core {
-            config: config,
-            clock: clock,
+            config,
+            clock: Clock::fresh(),
             running: Answer::NOBODY,
-            queue: queue,
-            vms: [none; 8],
+            queue: Queue::empty(),
+            vms: [Vm::fresh(); 8],
         }
     }
 
     // Whether W1 to W13 hold.
-    pub fn sound(self) -> bool
-        ensures { result ≡ sound self }
+    pub fn sound(&self) -> bool
+        ensures { result ≡ sound self.now }
     {
-        let config = self.config;
-        let entries = config.entries;
-        let handlers = config.handlers;
-        let owners = config.owners;
-        let durations = config.durations;
-        let vms = self.vms;
-        let clock = self.clock;
-        let queue = self.queue;
         if sound::parts_sound(
-            vms,
-            clock,
+            &self.vms,
+            self.clock,
             self.running,
-            queue,
-            config.count,
-            config.room,
-            config.slots,
-            &entries,
-            &handlers,
-            &owners,
-            &durations,
+            self.queue,
+            self.config.count,
+            self.config.room,
+            self.config.slots,
+            &self.config.entries,
+            &self.config.handlers,
+            &self.config.owners,
+            &self.config.durations,
         ) {
-            if config.regions.count == 0 {
-                let none = config.regions;
-                return none.blank();
+            if self.config.regions.count == 0 {
+                return self.config.regions.blank();
             }
-            let regions = config.regions;
-            return regions.lawful(config.count);
+            return self.config.regions.lawful(self.config.count);
         }
         false
     }
@@ -124,18 +78,26 @@ impl Core {
     pub fn refused(self, n: u8) -> Stepped
         ensures { result ≡ refused self n }
     {
-        let core = self;
-        if n == 1 {
-            return Stepped {
-                core: core,
-                answer: Answer::quiet(n, Answer::NOBODY, 0),
-            };
-        }
-        let vms = self.vms;
-        let vm = vms::vm_at(vms, self.running);
         Stepped {
-            core: core,
-            answer: Answer::quiet(n, self.running, vm.address),
+            core: self,
+            answer: self.refusal(n),
         }
+    }
+
+    // What a refusal answers (R3): where the state is not sound, no VM is shown.
+    pub fn refusal(&self, n: u8) -> Answer
+        ensures { result ≡ (refused self.now n).answer }
+    {
+        if n == 1 {
+            return Answer::quiet(n, Answer::NOBODY, 0);
+        }
+        Answer::quiet(n, self.running, self.address())
+    }
+
+    // Where the VM that runs goes on; 0 where none runs (A7).
+    fn address(&self) -> u32
+        ensures { result ≡ address_of self.now }
+    {
+        vms::vm_at(&self.vms, self.running).address
     }
 }

@@ -4,6 +4,7 @@ ghost use Rattle.rig_core.specs.Events.{inner_of, step_of};
 ghost use Rattle.rig_core.specs.Memory.{copy_in, inner_memory, memory_after};
 
 use crate::{Core, Stepped};
+use change::Answer;
 use event::Event;
 use window::{Pieces, Window};
 
@@ -85,20 +86,26 @@ impl Core {
     pub fn copied(self, p: Pieces, m: &mut [u8], base: u32) -> Stepped
         ensures { (result ≡ inner_of self (copy_in p base m.old)) × (m.new ≡ inner_memory self (copy_in p base m.old) m.old) }
     {
+        let mut core = self;
+        let answer = core.apply_copy(p, m, base);
+        Stepped { core, answer }
+    }
+
+    // The same on a core where it stands.
+    pub fn apply_copy(&mut self, p: Pieces, m: &mut [u8], base: u32) -> Answer
+        ensures core { self.new ≡ (inner_of self.old (copy_in p base m.old)).core }
+        ensures answer { result ≡ (inner_of self.old (copy_in p base m.old)).answer }
+        ensures memory { m.new ≡ inner_memory self.old (copy_in p base m.old) m.old }
+    {
         let w = Window {
-            base: base,
+            base,
             size: m.len(),
         };
-        let after = self.copy_whole(p, w);
-        if after.answer.refusal != 0 {
-            return after;
+        let answer = self.apply(Event::Copy(p, w));
+        if answer.refusal == 0 && answer.notice.kind == 0 {
+            window::copy_all(m, base, p.extents(), p.count as usize);
         }
-        if after.answer.notice.kind != 0 {
-            return after;
-        }
-        let xs = p.extents();
-        window::copy_all(m, base, xs, p.count as usize);
-        after
+        answer
     }
 
     // Any event: the state after it, with the answer (T8), or its refusal (R1).
@@ -110,14 +117,5 @@ impl Core {
         } else {
             self.refused(1)
         }
-    }
-
-    // Any event on a state that the caller knows to be sound: there it does what `step` does, and it does not test.
-    pub fn inner(self, e: Event) -> Stepped
-        ensures { result ≡ inner_of self e }
-    {
-        let config = self.config;
-        let t = self.after(e);
-        t.with_config(config)
     }
 }

@@ -1,174 +1,113 @@
 // The whole state as lines, behind that of the event that left it.
-// The functions ask for room in the buffer and for the table of pairs, as those of `lines` do.
+// The functions ask for room on the page, as those of `lines` do.
 #![tactic(auto)]
 
-ghost use Rattle.std.specs.Prelude.{min, ◌*◌, ◌+◌, ◌≤◌, length, [], ◌≡◌};
-ghost use Rattle.bank.specs.Bank.{vms_of};
-ghost use Rattle.basis.specs.Choice.{pick};
-ghost use Rattle.state_lines.specs.State.{clock_text, counts_text, fields_text, five_text, item_text, items_text, notice_text, parts_text, queue_text, vm_text, vms_text};
-ghost use Rattle.text.specs.Pairs.{pairs};
-ghost use Rattle.text.specs.Puts.{Puts};
+ghost use Rattle.std.specs.Prelude.{◌*◌, ◌≤◌, length, ◌≡◌};
+ghost use Rattle.state_lines.specs.State.{clock_text, counts_text, fields_text, items_text, notice_text, queue_text, state_text, vm_text, vms_text};
+ghost use Rattle.text.specs.Adds.{Adds, Room};
 
 use change::Notice;
 use guest::{Status, Vm};
 use queue::Queue;
+use rig_core::Core;
 use table::Clock;
+use text::Page;
 
-// The state if `states`, else nothing (N9); the VM records are those of a bank.
-pub fn put_states(
-    b: &mut [u8],
-    at: usize,
-    states: bool,
-    told: Notice,
-    clock: Clock,
-    running: u8,
-    queue: Queue,
-    standings: &[u8],
-    words: &[u32],
-    t: &[u8; 712],
-) -> usize
-    requires { (t.now ≡ pairs) × (at + 1545 ≤ length b.old) × (length standings.now ≡ 8) × (length words.now ≡ 104) }
-    ensures { Puts (pick states (parts_text told clock running queue (vms_of standings.now words.now)) []) b.old at b.new result × (result ≤ at + 1545) }
+// N9.
+pub fn put_states(page: &mut Page, told: &Notice, core: &Core)
+    requires { Room 1545 page.old }
+    ensures { Adds (state_text told.now core.now) 1545 page.old page.new }
 {
-    if states {
-        let a1 = put_notice(b, at, told, t);
-        let a2 = put_clock(b, a1, clock, running, t);
-        let a3 = put_queue(b, a2, queue);
-        let a4 = put_counts(b, a3, queue);
-        return put_vms(b, a4, standings, words, t);
-    }
-    at
+    put_notice(page, told);
+    put_clock(page, &core.clock, core.running);
+    put_queue(page, &core.queue);
+    put_counts(page, &core.queue);
+    put_vms(page, &core.vms);
 }
 
-fn put_notice(b: &mut [u8], at: usize, told: Notice, t: &[u8; 712]) -> usize
-    requires { (t.now ≡ pairs) × (at + 40 ≤ length b.old) }
-    ensures { Puts (notice_text told) b.old at b.new result × (result ≤ at + 40) }
+fn put_notice(page: &mut Page, told: &Notice)
+    requires { Room 40 page.old }
+    ensures { Adds (notice_text told.now) 40 page.old page.new }
 {
-    let a1 = text::put_word(b, at, b"notice ");
-    let a2 = lines::put_two(b, a1, told.vm as u32, told.code as u32, 32);
-    text::put_number_by(b, a2, told.detail, 10, t)
+    page.put_word(b"notice ");
+    lines::put_two(page, told.vm as u32, told.code as u32, b' ');
+    page.put_number(told.detail, b'\n');
 }
 
-fn put_clock(b: &mut [u8], at: usize, k: Clock, running: u8, t: &[u8; 712]) -> usize
-    requires { (t.now ≡ pairs) × (at + 60 ≤ length b.old) }
-    ensures { Puts (clock_text k running) b.old at b.new result × (result ≤ at + 60) }
+fn put_clock(page: &mut Page, k: &Clock, running: u8)
+    requires { Room 60 page.old }
+    ensures { Adds (clock_text k.now running) 60 page.old page.new }
 {
-    let a1 = text::put_word(b, at, b"core ");
-    let a2 = lines::put_two(b, a1, k.started as u32, k.ticked as u32, 32);
-    let a3 = lines::put_two_by(b, a2, k.slot as u32, k.left as u32, 32, t);
-    lines::put_choice(b, a3, running, 10)
+    page.put_word(b"core ");
+    lines::put_two(page, k.started as u32, k.ticked as u32, b' ');
+    lines::put_two(page, k.slot as u32, k.left as u32, b' ');
+    lines::put_choice(page, running, b'\n');
 }
 
-fn put_queue(b: &mut [u8], at: usize, q: Queue) -> usize
-    requires { at + 182 ≤ length b.old }
-    ensures { Puts (queue_text q) b.old at b.new result × (result ≤ at + 182) }
+fn put_queue(page: &mut Page, q: &Queue)
+    requires { Room 182 page.old }
+    ensures { Adds (queue_text q.now) 182 page.old page.new }
 {
-    let items = q.items;
-    let a1 = text::put_word(b, at, b"queue");
-    let a2 = put_items(b, a1, &items, least(q.len));
-    text::put_byte(b, a2, 10)
+    page.put_word(b"queue");
+    let n = q.len.min(Queue::PLACES);
+    put_items(page, &q.items, n as usize);
+    page.put_byte(b'\n');
 }
 
 // The eight queue counts.
-fn put_counts(b: &mut [u8], at: usize, q: Queue) -> usize
-    requires { at + 95 ≤ length b.old }
-    ensures { Puts (counts_text q.counts) b.old at b.new result × (result ≤ at + 95) }
+fn put_counts(page: &mut Page, q: &Queue)
+    requires { Room 95 page.old }
+    ensures { Adds (counts_text q.now.counts) 95 page.old page.new }
 {
-    let counts = q.counts;
-    let a1 = text::put_word(b, at, b"counts");
-    let a2 = put_items(b, a1, &counts, 8);
-    text::put_byte(b, a2, 10)
-}
-
-// How many of the sixteen places are entries.
-fn least(len: u8) -> u8
-    ensures { result ≡ min len 16 }
-{
-    if len < Queue::PLACES {
-        len
-    } else {
-        Queue::PLACES
-    }
+    page.put_word(b"counts");
+    put_items(page, &q.counts, 8);
+    page.put_byte(b'\n');
 }
 
 // The first n of these numbers, a space before each.
-fn put_items(b: &mut [u8], at: usize, items: &[u8], n: u8) -> usize
-    requires { (n ≤ length items.now) × (at + n * 11 ≤ length b.old) }
-    ensures { Puts (items_text items.now n) b.old at b.new result × (result ≤ at + n * 11) }
+fn put_items(page: &mut Page, items: &[u8], n: usize)
+    requires { (n ≤ length items.now) × Room (n * 11) page.old }
+    ensures { Adds (items_text items.now n) (n * 11) page.old page.new }
 {
-    let m = n as usize;
-    let mut to = at;
-    let mut k: usize = 0;
-    while k < m {
-        to = put_item(b, to, items[k]);
-        k = k + 1;
+    for item in &items[..n] {
+        page.put_byte(b' ');
+        page.put_decimal(*item as u32);
     }
-    to
 }
 
-fn put_item(b: &mut [u8], at: usize, v: u8) -> usize
-    requires { at + 11 ≤ length b.old }
-    ensures { Puts (item_text v) b.old at b.new result × (result ≤ at + 11) }
+fn put_vms(page: &mut Page, vms: &[Vm; 8])
+    requires { Room 1168 page.old }
+    ensures { Adds (vms_text vms.now) 1168 page.old page.new }
 {
-    let word = text::put_byte(b, at, 32);
-    text::put_decimal(b, word, v as u32)
-}
-
-fn put_vms(b: &mut [u8], at: usize, standings: &[u8], words: &[u32], t: &[u8; 712]) -> usize
-    requires { (t.now ≡ pairs) × (at + 1168 ≤ length b.old) × (length standings.now ≡ 8) × (length words.now ≡ 104) }
-    ensures { Puts (vms_text (vms_of standings.now words.now)) b.old at b.new result × (result ≤ at + 1168) }
-{
-    let mut to = at;
-    let mut k: u8 = 0;
-    while k < 8 {
-        let vm = bank::vm_at(standings, words, k);
-        to = put_vm(b, to, k as u32, vm, t);
-        k = k + 1;
+    for k in 0..8 {
+        put_vm(page, k as u32, &vms[k]);
     }
-    to
 }
 
-fn put_vm(b: &mut [u8], at: usize, k: u32, vm: Vm, t: &[u8; 712]) -> usize
-    requires { (t.now ≡ pairs) × (at + 146 ≤ length b.old) }
-    ensures { Puts (vm_text k vm) b.old at b.new result × (result ≤ at + 146) }
+fn put_vm(page: &mut Page, k: u32, vm: &Vm)
+    requires { Room 146 page.old }
+    ensures { Adds (vm_text k vm.now) 146 page.old page.new }
 {
-    let status = vm.status;
-    let a1 = text::put_word(b, at, b"vm ");
-    let a2 = lines::put_two(b, a1, k, vm.standing as u32, 32);
-    let a3 = text::put_address(b, a2, vm.address, 32, t);
-    let a4 = put_fields(b, a3, status, t);
-    lines::put_two_by(b, a4, vm.age, vm.ran, 10, t)
+    page.put_word(b"vm ");
+    lines::put_two(page, k, vm.standing as u32, b' ');
+    page.put_address(vm.address, b' ');
+    put_fields(page, &vm.status);
+    lines::put_two(page, vm.age, vm.ran, b'\n');
 }
 
 // F1 to F10.
-fn put_fields(b: &mut [u8], at: usize, f: Status, t: &[u8; 712]) -> usize
-    requires { (t.now ≡ pairs) × (at + 90 ≤ length b.old) }
-    ensures { Puts (fields_text f) b.old at b.new result × (result ≤ at + 90) }
+fn put_fields(page: &mut Page, f: &Status)
+    requires { Room 90 page.old }
+    ensures { Adds (fields_text f.now) 90 page.old page.new }
 {
-    let half = put_former(b, at, f, t);
-    put_latter(b, half, f, t)
-}
-
-// The former five fields; this and the next have one caller each, so that they become part of it.
-fn put_former(b: &mut [u8], at: usize, f: Status, t: &[u8; 712]) -> usize
-    requires { (t.now ≡ pairs) × (at + 45 ≤ length b.old) }
-    ensures { Puts (five_text f.since f.left f.enabled f.pending f.resume) b.old at b.new result × (result ≤ at + 45) }
-{
-    let a1 = text::put_address(b, at, f.since, 32, t);
-    let a2 = text::put_address(b, a1, f.left, 32, t);
-    let a3 = text::put_address(b, a2, f.enabled, 32, t);
-    let a4 = text::put_address(b, a3, f.pending, 32, t);
-    text::put_address(b, a4, f.resume, 32, t)
-}
-
-// The latter five.
-fn put_latter(b: &mut [u8], at: usize, f: Status, t: &[u8; 712]) -> usize
-    requires { (t.now ≡ pairs) × (at + 45 ≤ length b.old) }
-    ensures { Puts (five_text f.reason f.previous f.restore f.ontick f.running) b.old at b.new result × (result ≤ at + 45) }
-{
-    let a1 = text::put_address(b, at, f.reason, 32, t);
-    let a2 = text::put_address(b, a1, f.previous, 32, t);
-    let a3 = text::put_address(b, a2, f.restore, 32, t);
-    let a4 = text::put_address(b, a3, f.ontick, 32, t);
-    text::put_address(b, a4, f.running, 32, t)
+    page.put_address(f.since, b' ');
+    page.put_address(f.left, b' ');
+    page.put_address(f.enabled, b' ');
+    page.put_address(f.pending, b' ');
+    page.put_address(f.resume, b' ');
+    page.put_address(f.reason, b' ');
+    page.put_address(f.previous, b' ');
+    page.put_address(f.restore, b' ');
+    page.put_address(f.ontick, b' ');
+    page.put_address(f.running, b' ');
 }

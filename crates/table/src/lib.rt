@@ -1,12 +1,13 @@
 // The table's clock: where the core stands in the table, and how a tick moves it (D5).
 #![tactic(auto)]
 
-ghost use Rattle.std.specs.Prelude.{◌<◌, get_or, ◌≡◌};
+ghost use Rattle.std.specs.Prelude.{get_or, ◌≡◌};
 ghost use Rattle.table.specs.Position.{enter_slot, fresh_clock, next_clock, started_clock};
 
 use basis::places;
 
-// Whether the core was started and has ticked, the current slot and the ticks left in it.
+// Whether the core was started and has ticked, the current slot and the ticks left in it. The flags are numbers, as the C interface has
+// them and as a host may hold any byte in their place (W12).
 #[repr(C)]
 #[derive(Clone, Copy)]
 pub struct Clock {
@@ -40,13 +41,12 @@ impl Clock {
     {
         Clock {
             started: Clock::YES,
-            ticked: self.ticked,
-            slot: self.slot,
-            left: self.left,
+            ..self
         }
     }
 
     // One tick on, in a table of `slots` slots (D5).
+    #[tactic(auto, using(basis::proofs::Laws::ways, crate::proofs::Laws::first_slot, crate::proofs::Laws::next_slot), unfolding(crate::specs::Position::next_clock))]
     pub fn next(self, slots: u8, durations: &[u16]) -> Clock
         ensures { result ≡ next_clock slots durations.now self }
     {
@@ -55,13 +55,12 @@ impl Clock {
         }
         if 1 < self.left {
             return Clock {
-                started: self.started,
                 ticked: Clock::YES,
-                slot: self.slot,
                 left: self.left - 1,
+                ..self
             };
         }
-        if wide(self.slot) + 1 < wide(slots) {
+        if u16::from(self.slot) + 1 < u16::from(slots) {
             return self.entering(self.slot + 1, durations);
         }
         self.entering(0, durations)
@@ -72,10 +71,10 @@ impl Clock {
         ensures { result ≡ enter_slot durations.now self slot }
     {
         Clock {
-            started: self.started,
             ticked: Clock::YES,
-            slot: slot,
+            slot,
             left: duration_at(slot, durations),
+            ..self
         }
     }
 }
@@ -84,18 +83,12 @@ impl Clock {
 pub fn duration_at(slot: u8, durations: &[u16]) -> u16
     ensures { result ≡ get_or durations.now slot 0 }
 {
-    places::half_at(durations, slot as usize)
+    places::at(durations, slot as usize, 0)
 }
 
 // The VM that a slot names, or Config::SPARE; 0 past the last place.
 pub fn owner_at(slot: u8, owners: &[u8]) -> u8
     ensures { result ≡ get_or owners.now slot 0 }
 {
-    places::byte_at(owners, slot as usize)
-}
-
-fn wide(x: u8) -> u16
-    ensures { (result ≡ x) × (result < 256) }
-{
-    x as u16
+    places::at(owners, slot as usize, 0)
 }

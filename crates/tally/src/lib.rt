@@ -37,14 +37,12 @@ impl Tally {
     pub fn with_log(self, image: &[u8], log: &[u8]) -> Tally
         ensures { result ≡ with_log image.now log.now self }
     {
-        let r = image_reader::read(image);
-        if r.fault != 0 {
+        let Ok(config) = image_reader::read(image) else {
             return self;
-        }
+        };
         if events::LONGEST < log.len() {
             return self;
         }
-        let config = r.config;
         count::run(self, config, log)
     }
 }

@@ -20,7 +20,7 @@ use Rattle.guest.specs.Record.{is_blank, is_fresh, pend}
 use Rattle.guest.specs.Write.{is_field, stored, write}
 use Rattle.history.specs.History.{Moment, history, moments, ticking, times}
 use Rattle.history.specs.Moments.{naming}
-use Rattle.image_reader.specs.Reader.{read_end, read_image, read_regions, read_slots, read_vms, refused as refusedImage}
+use Rattle.image_reader.specs.Reader.{read_end, read_image, read_regions, read_slots, read_vms}
 use Rattle.image_reader.specs.Records.{core_fault, owner_fault, slot_fault, vm_fault}
 use Rattle.queue.specs.Entries.{counted_of, entries_of, front_of, others, padded_of, popped, pushed, rest}
 use Rattle.regions.specs.Rules.{alike_all, all_agree, bytes_rest, few_each, held, holders_fit, kept, lawful, permissions_fit, ranges_fit, words_rest}
@@ -37,7 +37,7 @@ use Rattle.vms.specs.Records.{each, rest_fresh}
 use Rattle.vms.specs.Tick.{entering, passed, runner_of, saving, turn, turn_by}
 
 image_read : ((read_image example_image).fault ≡ 0) × ((read_image example_image).config ≡ example 1)
-unfolding refusedImage read_image read_end read_slots read_regions read_vms core_fault owner_fault slot_fault vm_fault vms_served has_slot every some
+unfolding read_image read_end read_slots read_regions read_vms core_fault owner_fault slot_fault vm_fault vms_served has_slot every some
 image_read = (refl, refl)
 
 log_read : events_from example_log 0 ≡ example_events

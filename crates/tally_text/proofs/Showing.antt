@@ -9,7 +9,7 @@ use Rattle.basis.specs.Numbers.{Bytes}
 use Rattle.config.proofs.Legality.{legal_is}
 use Rattle.image_laws.proofs.Theorems.{read_legal, read_whole}
 use Rattle.image_reader.specs.Reader.{read_image}
-use Rattle.image_reader.specs.declared.Reading.{Reading}
+use Rattle.image_reader.specs.Reading.{Reading}
 use Rattle.lines.specs.Text.{refused_text}
 use Rattle.tally.specs.declared.Tally.{Tally}
 use Rattle.tally_text.specs.Shown.{enough, shown_in, shown_text, tally_text}

@@ -9,6 +9,7 @@ ghost use Rattle.tally_text.specs.Shown.{shown_in};
 ghost use Rattle.text.specs.Puts.{Puts};
 
 use tally::Tally;
+use text::Page;
 
 // The most bytes that a report has, and some more.
 const ROOM: usize = 512;
@@ -20,28 +21,24 @@ pub fn put(b: &mut [u8], image: &[u8], t: Tally) -> usize
     if b.len() < ROOM {
         return 0;
     }
-    let r = image_reader::read(image);
-    let fault = r.fault;
-    if fault != 0 {
-        return lines::put_refused(b, 0, fault, r.offset as u32);
-    }
-    let config = r.config;
-    line::put_tally(b, 0, config.count, t)
+    let mut page = Page { bytes: b, used: 0 };
+    let config = match image_reader::read(image) {
+        Ok(config) => config,
+        Err(r) => {
+            lines::put_refused(&mut page, r.fault.number(), r.offset as u32);
+            return page.used;
+        }
+    };
+    line::put_tally(&mut page, config.count, &t);
+    page.used
 }
 
 // The name of a log's file (N13), for a number of at most two digits.
 pub fn log_name(k: u8) -> [u8; 9]
     ensures { result ≡ log_name k }
 {
-    [
-        108,
-        111,
-        103,
-        48 + k / 10 % 10,
-        48 + k % 10,
-        46,
-        98,
-        105,
-        110,
-    ]
+    let mut name = *b"log00.bin";
+    name[3] = b'0' + k / 10 % 10;
+    name[4] = b'0' + k % 10;
+    name
 }

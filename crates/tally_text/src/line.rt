@@ -1,52 +1,45 @@
 // The lines of a report (N18).
-ghost use Rattle.std.specs.Prelude.{◌+◌, ◌≤◌, length};
+ghost use Rattle.std.specs.Prelude.{◌≤◌};
 ghost use Rattle.tally_text.specs.Report.{last_text, row_text};
 ghost use Rattle.tally_text.specs.Shown.{rows_text, tally_text};
-ghost use Rattle.text.specs.Puts.{Puts};
+ghost use Rattle.text.specs.Adds.{Adds, Room};
 
 use tally::Tally;
+use text::Page;
 
-pub fn put_tally(b: &mut [u8], at: usize, count: u8, t: Tally) -> usize
-    requires { (count ≤ 8) × (at + 385 ≤ length b.old) }
-    ensures { Puts (tally_text count t) b.old at b.new result × (result ≤ at + 385) }
+pub fn put_tally(page: &mut Page, count: u8, t: &Tally)
+    requires { (count ≤ 8) × Room 385 page.old }
+    ensures { Adds (tally_text count t.now) 385 page.old page.new }
 {
-    let rows = put_rows(b, at, count as u32, t);
-    put_last(b, rows, t.idle, t.ticks)
+    put_rows(page, count as usize, t);
+    put_last(page, t.idle, t.ticks);
 }
 
 // The lines of the first n VMs.
-fn put_rows(b: &mut [u8], at: usize, n: u32, t: Tally) -> usize
-    requires { (n ≤ 8) × (at + 352 ≤ length b.old) }
-    ensures { Puts (rows_text t n) b.old at b.new result × (result ≤ at + 352) }
+fn put_rows(page: &mut Page, n: usize, t: &Tally)
+    requires { (n ≤ 8) × Room 352 page.old }
+    ensures { Adds (rows_text t.now n) 352 page.old page.new }
 {
-    let table = t.table;
-    let spare = t.spare;
-    let missed = t.missed;
-    let mut to = at;
-    let mut v: u32 = 0;
-    while v < n {
-        let i = v as usize;
-        to = put_row(b, to, v, table[i], spare[i], missed[i]);
-        v = v + 1;
+    for v in 0..n {
+        put_row(page, v as u32, t.table[v], t.spare[v], t.missed[v]);
     }
-    to
 }
 
-fn put_row(b: &mut [u8], at: usize, v: u32, table: u32, spare: u32, missed: u32) -> usize
-    requires { at + 44 ≤ length b.old }
-    ensures { Puts (row_text v table spare missed) b.old at b.new result × (result ≤ at + 44) }
+fn put_row(page: &mut Page, v: u32, table: u32, spare: u32, missed: u32)
+    requires { Room 44 page.old }
+    ensures { Adds (row_text v table spare missed) 44 page.old page.new }
 {
-    let half = lines::put_two(b, at, v, table, 32);
-    lines::put_two(b, half, spare, missed, 10)
+    lines::put_two(page, v, table, b' ');
+    lines::put_two(page, spare, missed, b'\n');
 }
 
 // `idle` and `ticks`, each with its number.
-fn put_last(b: &mut [u8], at: usize, idle: u32, ticks: u32) -> usize
-    requires { at + 33 ≤ length b.old }
-    ensures { Puts (last_text idle ticks) b.old at b.new result × (result ≤ at + 33) }
+fn put_last(page: &mut Page, idle: u32, ticks: u32)
+    requires { Room 33 page.old }
+    ensures { Adds (last_text idle ticks) 33 page.old page.new }
 {
-    let a1 = text::put_word(b, at, b"idle ");
-    let a2 = text::put_number(b, a1, idle, 10);
-    let a3 = text::put_word(b, a2, b"ticks ");
-    text::put_number(b, a3, ticks, 10)
+    page.put_word(b"idle ");
+    page.put_number(idle, b'\n');
+    page.put_word(b"ticks ");
+    page.put_number(ticks, b'\n');
 }

@@ -1,32 +1,21 @@
 -- Laws of the digits of a number.
-use Prim.Native.Nat.{suc, zero, ℕ, ◌%◌, ◌+◌, ◌-◌, ◌/◌, ◌<◌, ◌^◌, ◌≤◌}
-use borrow.Author.Tests.{lt-ltb, ltb-false, ltb-true}
+use Prim.Native.Nat.{suc, zero, ℕ, ◌%◌, ◌*◌, ◌-◌, ◌/◌, ◌<◌, ◌^◌, ◌≤◌}
+use borrow.Author.Tests.{le-ltb, lt-ltb, ltb-false, ltb-true}
 use lib.Dec.{ltb}
-use lib.ListN.{length, length-append, set}
-use mathlib.Core.List.{List, [], ◌∷◌}
-use mathlib.Core.Path.{ap, refl, sym, ◌∙◌, ◌≡◌}
-use native.Mathlib.Nat.{mod-eq_of_lt}
+use lib.ListN.{length, length-append}
+use mathlib.Core.Bool.{Bool, false, true}
+use mathlib.Core.List.{[], ◌∷◌}
+use mathlib.Core.Path.{refl, sym, ◌∙◌, ◌≡◌}
+use native.Mathlib.Decide.{dec_lt}
 use native.Mathlib.Omega.{arith}
 use Rattle.basis.proofs.Laws.{pick_case}
-use Rattle.basis.specs.Buffer.{put_all}
-use Rattle.text.proofs.Puts.{last_first}
+use Rattle.basis.specs.Choice.{pick}
 use Rattle.text.specs.Digits.{decimal, digits, glyph, hex8, hex_byte, width}
-use Rattle.text.specs.Puts.{Puts}
 
 pub digits_length : (base k n : ℕ) → length (digits base k n) ≡ k
 unfolding digits
 digits_length base zero n = refl
 digits_length base (suc k) n = omega (arith, length-append (digits base k (n / base)) (glyph (n % base) ∷ []), digits_length base k (n / base))
-
--- the turn of the loop: the last digit is stored, the others are still to be put
-pub digits_turn : (b : List ℕ) (at base i rest g : ℕ) → 0 < i → g ≡ glyph (rest % base)
-    → put_all (set b (at + (i - 1)) g) at (digits base (i - 1) (rest / base)) ≡ put_all b at (digits base i rest)
-unfolding digits
-digits_turn b at base zero rest g h e = absurd (omega arith)
-digits_turn b at base (suc k) rest g h e =
-    let j : suc k - 1 ≡ k = omega arith in
-    let ds = digits base k (rest / base) in
-    rw (j, e) (ap (λ (m : ℕ). put_all (set b (at + m) (glyph (rest % base))) at ds) (sym (digits_length base k (rest / base))) ∙ last_first b at ds (glyph (rest % base)))
 
 -- what holds of each width that a number may have holds of its width
 width_cases : (P : ℕ → Type 0) (n : ℕ) → (n < 10 → P 1) → (10 ≤ n → n < 100 → P 2) → (100 ≤ n → n < 1000 → P 3) → (1000 ≤ n → n < 10000 → P 4) → (10000 ≤ n → n < 100000 → P 5)
@@ -56,26 +45,48 @@ width_right n h =
     (λ a b. (b, λ f. a)) (λ a b. (b, λ f. a)) (λ a b. (b, λ f. a)) (λ a b. (b, λ f. a)) (λ a b. (b, λ f. a))
     (λ a b. (b, λ f. a)) (λ a b. (b, λ f. a)) (λ a b. (b, λ f. a)) (λ a. (omega arith, λ f. a))
 
--- no digit is left to be put
-pub digits_end : (b e : List ℕ) (at base i rest : ℕ) → put_all b at (digits base i rest) ≡ e → i ≡ 0 → b ≡ e
-unfolding put_all digits
-digits_end b e at base i rest h j = rw j at h
+-- the width of a number below 10, and below 100; any other has two digits more than its hundredth
+pub width_one : (n : ℕ) → n < 10 → width n ≡ 1
+unfolding width
+width_one n h = rw (lt-ltb n 10 h) refl
 
--- a row of k digits is put
-pub digits_put : (l m : List ℕ) (at base k n : ℕ) → m ≡ put_all l at (digits base k n) → Puts (digits base k n) l at m (at + k)
-digits_put l m at base k n e = record { bytes = e; next = ap (λ (j : ℕ). at + j) (sym (digits_length base k n)) }
+pub width_two : (n : ℕ) → 10 ≤ n → n < 100 → width n ≡ 2
+unfolding width
+width_two n h k = rw (le-ltb n 10 h, lt-ltb n 100 k) refl
 
--- as many digits as the number has are put
-pub decimal_put : (l m : List ℕ) (at n k : ℕ) → k ≡ width n → m ≡ put_all l at (digits 10 k n) → Puts (decimal n) l at m (at + k) × (at + k ≤ at + 10)
-unfolding decimal
-decimal_put l m at n k e f = (rw e (digits_put l m at 10 (width n) n (rw (← e) f)), omega (arith, width_most n))
+hundredth : (n m k : ℕ) → m * 100 ≡ k → ltb (n / 100) m ≡ ltb n k
+hundredth n m k e =
+    elim (dec_lt n k) [
+      | yes l ↦ lt-ltb (n / 100) m (omega arith) ∙ sym (lt-ltb n k l)
+      | no l ↦ le-ltb (n / 100) m (omega arith) ∙ sym (le-ltb n k (omega arith))
+    ]
 
--- one digit is put
-pub one_put : (l : List ℕ) (at n : ℕ) → n < 10 → Puts (decimal n) l at (set l at (48 + n)) (at + 1) × (at + 1 ≤ at + 10)
-unfolding width digits put_all glyph
-one_put l at n h =
-    let m : n % 10 ≡ n = mod-eq_of_lt h in
-    decimal_put l (set l at (48 + n)) at n 1 (rw (lt-ltb n 10 h)) (rw (m, lt-ltb n 10 h))
+pub width_more : (n : ℕ) → 100 ≤ n → n < 2 ^ 32 → width n ≡ suc (suc (width (n / 100)))
+unfolding width
+width_more n h k =
+    rw (
+      le-ltb n 10 (omega arith),
+      le-ltb n 100 h,
+      hundredth n 10 1000 refl,
+      hundredth n 100 10000 refl,
+      hundredth n 1000 100000 refl,
+      hundredth n 10000 1000000 refl,
+      hundredth n 100000 10000000 refl,
+      hundredth n 1000000 100000000 refl,
+      hundredth n 10000000 1000000000 refl,
+      lt-ltb (n / 100) 100000000 (omega arith),
+    )
+    (go (ltb n 1000) (ltb n 10000) (ltb n 100000) (ltb n 1000000) (ltb n 10000000) (ltb n 100000000) (ltb n 1000000000))
+  where
+    go : (a b c d e f g : Bool) → pick a 3 (pick b 4 (pick c 5 (pick d 6 (pick e 7 (pick f 8 (pick g 9 10)))))) ≡ suc (suc (pick a 1 (pick b 2 (pick c 3 (pick d 4 (pick e 5 (pick f 6 (pick g 7 8))))))))
+    go true b c d e f g = refl
+    go false true c d e f g = refl
+    go false false true d e f g = refl
+    go false false false true e f g = refl
+    go false false false false true f g = refl
+    go false false false false false true g = refl
+    go false false false false false false true = refl
+    go false false false false false false false = refl
 
 pub decimal_length : (n : ℕ) → length (decimal n) ≡ width n
 unfolding decimal

@@ -1,20 +1,19 @@
 -- Laws of the table of digit pairs: what stands in it, and that pairs put one behind the other are the digits of a number.
 use Prim.Native.Nat.{suc, zero, ℕ, ◌%◌, ◌*◌, ◌+◌, ◌/◌, ◌<◌, ◌^◌, ◌≤◌}
-use borrow.Author.Tests.{le-ltb, lt-ltb}
+use borrow.Author.Tests.{lt-ltb}
 use lib.ListN.{get_or-append, get_or, length, set}
 use lib.Seq.{get_or-append-add}
 use mathlib.Core.List.{List, [], ◌++◌, ◌∷◌}
-use mathlib.Core.Path.{ap, refl, ◌∙◌, ◌≡◌}
+use mathlib.Core.Path.{ap, refl, sym, ◌∙◌, ◌≡◌}
 use native.Mathlib.Decide.{dec_lt}
 use native.Mathlib.Nat.{div-div-eq-div-mul, mod-eq_of_lt}
 use native.Mathlib.Omega.{arith}
-use Rattle.basis.proofs.Buffer.{joined_length, put_all_join}
+use Rattle.basis.proofs.Buffer.{joined_length}
 use Rattle.basis.specs.Buffer.{put_all}
 use Rattle.basis.specs.Count.{joined}
-use Rattle.text.proofs.Digits.{decimal_put, digits_length, digits_put}
+use Rattle.text.proofs.Digits.{digits_length, width_more, width_one, width_two}
 use Rattle.text.specs.Digits.{decimal, digits, glyph, hex8, width}
 use Rattle.text.specs.Pairs.{pair_at, pairs}
-use Rattle.text.specs.Puts.{Puts}
 
 -- where all of f 0, f 1, .. have two bytes, byte j of f k is found at once
 module _ (f : ℕ → List ℕ) (wide : (k : ℕ) → length (f k) ≡ 2) where
@@ -83,100 +82,44 @@ append_two : (xs : List ℕ) (y z : ℕ) → (xs ++ (y ∷ [])) ++ (z ∷ []) �
 append_two [] y z = refl
 append_two (x ∷ xs) y z = ap (λ (l : List ℕ). x ∷ l) (append_two xs y z)
 
--- all digits but two, and these two
-hex_two : (k n : ℕ) → digits 16 (suc (suc k)) n ≡ digits 16 k (n / 256) ++ digits 16 2 n
+-- all digits but two, and these two as a pair
+hex_two : (k n : ℕ) → digits 16 (suc (suc k)) n ≡ digits 16 k (n / 256) ++ pair_at (n % 256)
 unfolding digits
-hex_two k n = append_two (digits 16 k (n / 16 / 16)) _ _ ∙ ap (λ (m : ℕ). digits 16 k m ++ (glyph (n / 16 % 16) ∷ glyph (n % 16) ∷ [])) (div-div-eq-div-mul n 16 16)
+hex_two k n =
+    append_two (digits 16 k (n / 16 / 16)) _ _
+    ∙ ap (λ (m : ℕ). digits 16 k m ++ (glyph (n / 16 % 16) ∷ glyph (n % 16) ∷ [])) (div-div-eq-div-mul n 16 16)
+    ∙ ap (λ (xs : List ℕ). digits 16 k (n / 256) ++ xs) (sym (pair_hex (n % 256) (omega arith) ∙ hex_rest n))
 
-dec_two : (k n : ℕ) → digits 10 (suc (suc k)) n ≡ digits 10 k (n / 100) ++ digits 10 2 n
+dec_two : (k n : ℕ) → digits 10 (suc (suc k)) n ≡ digits 10 k (n / 100) ++ pair_at (256 + n % 100)
 unfolding digits
-dec_two k n = append_two (digits 10 k (n / 10 / 10)) _ _ ∙ ap (λ (m : ℕ). digits 10 k m ++ (glyph (n / 10 % 10) ∷ glyph (n % 10) ∷ [])) (div-div-eq-div-mul n 10 10)
+dec_two k n =
+    append_two (digits 10 k (n / 10 / 10)) _ _
+    ∙ ap (λ (m : ℕ). digits 10 k m ++ (glyph (n / 10 % 10) ∷ glyph (n % 10) ∷ [])) (div-div-eq-div-mul n 10 10)
+    ∙ ap (λ (xs : List ℕ). digits 10 k (n / 100) ++ xs) (sym (pair_dec (n % 100) (omega arith) ∙ dec_rest n))
 
--- the step of every law below: behind k digits the next two are put
-module _ (l m m' : List ℕ) (at k n : ℕ) where
-  pub hex_more : m ≡ put_all l at (digits 16 k (n / 256)) → m' ≡ put_all m (at + k) (digits 16 2 (n % 256)) → m' ≡ put_all l at (digits 16 (suc (suc k)) n)
-  hex_more e f = f ∙ rw (e, hex_rest n, hex_two k n) (put_all_join (digits 16 k (n / 256)) (digits 16 2 n) l at k (digits_length 16 k (n / 256)))
-
-  pub dec_more : m ≡ put_all l at (digits 10 k (n / 100)) → m' ≡ put_all m (at + k) (digits 10 2 (n % 100)) → m' ≡ put_all l at (digits 10 (suc (suc k)) n)
-  dec_more e f = f ∙ rw (e, dec_rest n, dec_two k n) (put_all_join (digits 10 k (n / 100)) (digits 10 2 n) l at k (digits_length 10 k (n / 100)))
-
--- four zeros are stored
-pub zeros_put : (l : List ℕ) (at : ℕ) → set (set (set (set l at 48) (at + 1) 48) (at + 2) 48) (at + 3) 48 ≡ put_all l at (48 ∷ 48 ∷ 48 ∷ 48 ∷ [])
-unfolding put_all
-zeros_put l at =
-    let a : at + 1 + 1 ≡ at + 2 = omega arith in
-    let b : at + 2 + 1 ≡ at + 3 = omega arith in
-    rw (a, b)
-
--- the upper four hexadecimal digits are put: zeros, or two pairs
-pub upper_zeros : (l m : List ℕ) (at n : ℕ) → n < 65536 → m ≡ put_all l at (48 ∷ 48 ∷ 48 ∷ 48 ∷ []) → m ≡ put_all l at (digits 16 4 (n / 65536))
-unfolding digits glyph
-upper_zeros l m at n h e =
-    let z : n / 65536 ≡ 0 = omega arith in
-    rw z e
-
-pub upper_put : (l m₁ m₂ : List ℕ) (at n : ℕ) → n < 2 ^ 32 → m₁ ≡ put_all l at (pair_at (n / 16777216)) → m₂ ≡ put_all m₁ (at + 2) (pair_at (n / 65536 % 256)) → m₂ ≡ put_all l at (digits 16 4 (n / 65536))
-upper_put l m₁ m₂ at n h e₁ e₂ =
-    let b : n / 65536 / 256 ≡ n / 16777216 = div-div-eq-div-mul n 65536 256 in
-    let p : m₁ ≡ put_all l at (digits 16 2 (n / 65536 / 256)) = rw b (e₁ ∙ ap (put_all l at) (pair_hex (n / 16777216) (omega arith))) in
-    hex_more l m₁ m₂ at 2 (n / 65536) p (e₂ ∙ ap (put_all m₁ (at + 2)) (pair_hex (n / 65536 % 256) (omega arith)))
-
--- all eight are put: the upper four and two pairs, or zeros
-pub hex_put : (l m₁ m₂ m₃ : List ℕ) (at n : ℕ) → m₁ ≡ put_all l at (digits 16 4 (n / 65536)) → m₂ ≡ put_all m₁ (at + 4) (pair_at (n / 256 % 256))
-    → m₃ ≡ put_all m₂ (at + 6) (pair_at (n % 256)) → Puts (hex8 n) l at m₃ (at + 8)
+-- an address by pairs
+pub hex8_pairs : (n : ℕ) → n < 2 ^ 32 → hex8 n ≡ ((pair_at (n / 16777216) ++ pair_at (n / 65536 % 256)) ++ pair_at (n / 256 % 256)) ++ pair_at (n % 256)
 unfolding hex8
-hex_put l m₁ m₂ m₃ at n e₁ e₂ e₃ =
+hex8_pairs n h =
     let a : n / 256 / 256 ≡ n / 65536 = div-div-eq-div-mul n 256 256 in
-    let p : m₂ ≡ put_all l at (digits 16 6 (n / 256)) = hex_more l m₁ m₂ at 4 (n / 256) (rw a e₁) (e₂ ∙ ap (put_all m₁ (at + 4)) (pair_hex (n / 256 % 256) (omega arith))) in
-    digits_put l m₃ at 16 8 n (hex_more l m₂ m₃ at 6 n p (e₃ ∙ ap (put_all m₂ (at + 6)) (pair_hex (n % 256) (omega arith))))
+    let b : n / 65536 / 256 ≡ n / 16777216 = div-div-eq-div-mul n 65536 256 in
+    hex_two 6 n ∙ rw (hex_two 4 (n / 256), a, hex_two 2 (n / 65536), b, pair_hex (n / 16777216) (omega arith)) refl
 
-pub zero_put : (l m₁ m₂ : List ℕ) (at n : ℕ) → n ≡ 0 → m₁ ≡ put_all l at (48 ∷ 48 ∷ 48 ∷ 48 ∷ []) → m₂ ≡ put_all m₁ (at + 4) (48 ∷ 48 ∷ 48 ∷ 48 ∷ []) → Puts (hex8 n) l at m₂ (at + 8)
+pub hex8_zero : (n : ℕ) → n ≡ 0 → hex8 n ≡ 48 ∷ 48 ∷ 48 ∷ 48 ∷ 48 ∷ 48 ∷ 48 ∷ 48 ∷ []
 unfolding hex8 digits glyph
-zero_put l m₁ m₂ at n z e₁ e₂ =
-    rw z (digits_put l m₂ at 16 8 0 (e₂ ∙ rw e₁ (put_all_join (48 ∷ 48 ∷ 48 ∷ 48 ∷ []) (48 ∷ 48 ∷ 48 ∷ 48 ∷ []) l at 4 refl)))
+hex8_zero n h = rw h refl
 
--- a single decimal digit is stored
-dec_one : (l : List ℕ) (at n : ℕ) → n < 10 → set l at (48 + n) ≡ put_all l at (digits 10 1 n)
-unfolding digits put_all glyph
-dec_one l at n h =
+-- a number in decimal: its one digit, its two digits, or all digits but two and these two
+pub decimal_one : (n : ℕ) → n < 10 → decimal n ≡ (48 + n) ∷ []
+unfolding decimal digits glyph
+decimal_one n h =
     let m : n % 10 ≡ n = mod-eq_of_lt h in
-    rw (m, lt-ltb n 10 h)
+    rw (width_one n h, m, lt-ltb n 10 h) refl
 
--- the width of a number between two powers of ten
-width_2 : (n : ℕ) → 10 ≤ n → n < 100 → 2 ≡ width n
-unfolding width
-width_2 n a b = rw (le-ltb n 10 a, lt-ltb n 100 b)
+pub decimal_two : (n : ℕ) → 10 ≤ n → n < 100 → decimal n ≡ pair_at (256 + n)
+unfolding decimal
+decimal_two n h k = rw (width_two n h k) (sym (pair_dec n k))
 
-width_3 : (n : ℕ) → 100 ≤ n → n < 1000 → 3 ≡ width n
-unfolding width
-width_3 n a b = rw (le-ltb n 10 (omega arith), le-ltb n 100 a, lt-ltb n 1000 b)
-
-width_4 : (n : ℕ) → 1000 ≤ n → n < 10000 → 4 ≡ width n
-unfolding width
-width_4 n a b = rw (le-ltb n 10 (omega arith), le-ltb n 100 (omega arith), le-ltb n 1000 a, lt-ltb n 10000 b)
-
-width_5 : (n : ℕ) → 10000 ≤ n → n < 100000 → 5 ≡ width n
-unfolding width
-width_5 n a b = rw (le-ltb n 10 (omega arith), le-ltb n 100 (omega arith), le-ltb n 1000 (omega arith), le-ltb n 10000 a, lt-ltb n 100000 b)
-
--- two, three, four or five decimal digits are put
-module _ (l : List ℕ) (at n : ℕ) where
-  pub two_put : (m : List ℕ) → 10 ≤ n → n < 100 → m ≡ put_all l at (digits 10 2 n) → Puts (decimal n) l at m (at + 2) × (at + 2 ≤ at + 10)
-  two_put m a b e = decimal_put l m at n 2 (width_2 n a b) e
-
-  pub three_put : (m : List ℕ) → 100 ≤ n → n < 1000 → m ≡ put_all (set l at (48 + n / 100)) (at + 1) (digits 10 2 (n % 100)) → Puts (decimal n) l at m (at + 3) × (at + 3 ≤ at + 10)
-  three_put m a b e = decimal_put l m at n 3 (width_3 n a b) (dec_more l (set l at (48 + n / 100)) m at 1 n (dec_one l at (n / 100) (omega arith)) e)
-
-  pub four_put : (m m' : List ℕ) → 1000 ≤ n → n < 10000 → m ≡ put_all l at (digits 10 2 (n / 100)) → m' ≡ put_all m (at + 2) (digits 10 2 (n % 100))
-      → Puts (decimal n) l at m' (at + 4) × (at + 4 ≤ at + 10)
-  four_put m m' a b e f = decimal_put l m' at n 4 (width_4 n a b) (dec_more l m m' at 2 n e f)
-
-  pub five_put : (m m' : List ℕ) → 10000 ≤ n → n < 100000 → m ≡ put_all (set l at (48 + n / 10000)) (at + 1) (digits 10 2 (n % 10000 / 100))
-      → m' ≡ put_all m (at + 3) (digits 10 2 (n % 10000 % 100)) → Puts (decimal n) l at m' (at + 5) × (at + 5 ≤ at + 10)
-  five_put m m' a b e f =
-      let d : n / 100 / 100 ≡ n / 10000 = div-div-eq-div-mul n 100 100 in
-      let g : n % 10000 / 100 ≡ n / 100 % 100 = omega arith in
-      let h : n % 10000 % 100 ≡ n % 100 = omega arith in
-      let q : set l at (48 + n / 10000) ≡ put_all l at (digits 10 1 (n / 100 / 100)) = rw d (dec_one l at (n / 10000) (omega arith)) in
-      let p : m ≡ put_all l at (digits 10 3 (n / 100)) = dec_more l (set l at (48 + n / 10000)) m at 1 (n / 100) q (rw g at e) in
-      decimal_put l m' at n 5 (width_5 n a b) (dec_more l m m' at 3 n p (rw h at f))
+pub decimal_more : (n : ℕ) → 100 ≤ n → n < 2 ^ 32 → decimal n ≡ decimal (n / 100) ++ pair_at (256 + n % 100)
+unfolding decimal
+decimal_more n h k = rw (width_more n h k) (dec_two (width (n / 100)) n)

@@ -1,11 +1,11 @@
 -- Laws of text put into a buffer.
-use Prim.Native.Nat.{suc, ℕ, ◌+◌, ◌<◌, ◌≤◌}
-use lib.ListN.{drop, get_or, length, length-append, set, take}
-use lib.Seq.{drop-cons, drop-length, length-take-le, set_comm, sets-eq, take_at}
-use mathlib.Core.List.{List, [], ◌++◌, ◌∷◌}
+use Prim.Native.Nat.{suc, ℕ, ◌+◌, ◌-◌, ◌≤◌}
+use lib.ListN.{drop, length, length-append, set, take}
+use lib.Seq.{length-take-le, set_comm, sets-eq, take_at}
+use mathlib.Core.List.{List, append_assoc, [], ◌++◌, ◌∷◌}
 use mathlib.Core.Path.{ap, refl, sym, ◌∙◌, ◌≡◌}
-use native.Mathlib.Numerals.{add-one}
 use native.Mathlib.Omega.{arith}
+use borrow.Rule.Slice.PartMut.{Post-is, put_mid}
 use Rattle.basis.proofs.Buffer.{put_all_is, put_all_join, put_all_length}
 use Rattle.basis.specs.Buffer.{put_all}
 use Rattle.text.specs.Puts.{Puts}
@@ -45,18 +45,11 @@ last_first l i (x ∷ vs) v =
     ap (λ (m : List ℕ). put_all m (i + 1) vs) (set_comm l (i + suc (length vs)) i v x (λ f. absurd (omega arith))
     ∙ ap (λ (k : ℕ). set (set l i x) k v) e) ∙ last_first (set l i x) (i + 1) vs v
 
--- the turn of a loop that copies a word: what is still to be put gives what the whole gives
-pub copied : (b s : List ℕ) (at i x : ℕ) → i < length s → x ≡ get_or s i 0 → put_all (set b (at + i) x) (at + (i + 1)) (drop (i + 1) s) ≡ put_all b (at + i) (drop i s)
-unfolding put_all
-copied b s at i x h e =
-    let a : at + (i + 1) ≡ at + i + 1 = omega arith in
-    rw (a, add-one i, e) (sym (ap (put_all b (at + i)) (drop-cons s i 0 h)))
-
-pub copied_all : (b e s : List ℕ) (at i : ℕ) → put_all b (at + i) (drop i s) ≡ e → i ≡ length s → b ≡ e
-unfolding put_all
-copied_all b e s at i h j = rw (j, drop-length s) at h
-
 -- one byte stored is a text put
 pub byte_put : (l : List ℕ) (at x : ℕ) → Puts (x ∷ []) l at (set l at x) (at + 1)
 unfolding put_all
 byte_put l at x = record { bytes = refl; next = refl }
+
+-- a slice copied is a text put
+pub word_put : (l s w : List ℕ) (at : ℕ) → at + length s ≤ length l → w ≡ s → Puts s l at (put_mid at (at + length s - at) l w) (at + length s)
+word_put l s w at h e = record { bytes = rw (e, Post-is at (at + length s) l (omega arith)) (sym (put_all_is l at s ∙ sets-eq s l at h ∙ append_assoc (take at l) s (drop (at + length s) l))); next = refl }

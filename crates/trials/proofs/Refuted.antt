@@ -1,4 +1,5 @@
 -- Each worthless core, and each easy mistake, fails a demand that is named; and the promises are not empty. Both by computation.
+use Rattle.std.proofs.Common.{Some}
 use Prim.Native.Nat.{ℕ}
 use lib.ListN.{get_or}
 use mathlib.Core.Bool.{true}
@@ -23,7 +24,6 @@ use Rattle.guest.specs.Bits.{clear_bit, highest, set_bit}
 use Rattle.guest.specs.Deliver.{deliver, due, enter, shown}
 use Rattle.guest.specs.Record.{is_blank, is_fresh, pend}
 use Rattle.guest.specs.Write.{is_field, stored, write}
-use Rattle.guest.specs.declared.Found.TheVariants.{At}
 use Rattle.guest.specs.declared.Status.{Status}
 use Rattle.guest.specs.declared.Vm.{Vm}
 use Rattle.history.specs.History.{count_after, moments, state_after, times, told}
@@ -62,7 +62,7 @@ one_byte = copy_of 1 (piece 0 1 1 ∷ [])
 abbrev offered : ℕ → ℕ → Status
 offered pending enabled = record { since = 0; left = 0; enabled = enabled; pending = pending; resume = 0; reason = 0; previous = 0; restore = 0; ontick = 0; running = 0 }
 
-highest_is : (o : Offer) (p e n : ℕ) → p ≡ o.pending → e ≡ o.enabled → due (offered p e) ≡ At n → Highest o n
+highest_is : (o : Offer) (p e n : ℕ) → p ≡ o.pending → e ≡ o.enabled → due (offered p e) ≡ Some n → Highest o n
 highest_is o p e n a b h = found_highest o (offered p e) a b n h
 
 abbrev begun_once : List Event

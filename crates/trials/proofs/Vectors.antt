@@ -29,7 +29,7 @@ use Rattle.guest.specs.Deliver.{deliver, due, enter, shown}
 use Rattle.guest.specs.Record.{is_blank, is_fresh, pend}
 use Rattle.guest.specs.Write.{is_field, stored, write}
 use Rattle.history.specs.History.{moments, state_after}
-use Rattle.image_reader.specs.Reader.{read_end, read_image, read_regions, read_slots, read_vms, refused as refusedImage}
+use Rattle.image_reader.specs.Reader.{read_end, read_image, read_regions, read_slots, read_vms}
 use Rattle.image_reader.specs.Records.{core_fault, owner_fault, place_fault, region_fault, slot_fault, vm_fault}
 use Rattle.queue.specs.Entries.{counted_of, entries_of, front_of, others, padded_of, popped, pushed, rest}
 use Rattle.regions.specs.Beside.{agrees_all}
@@ -57,7 +57,7 @@ record Computed : Type 0 where
   unsound : AllFalse (sound_in broken_states)
 
 computed : Computed
-unfolding vectors lines_in call_shown removed_shown counts_shown broken_states clauses_of good refusedImage read_image read_end read_slots read_vms core_fault owner_fault slot_fault vm_fault step_of refusal_of row_of sound queued_ready none_ready standings_known done start_core tick_clock tick_turn tick_queue called_from running_without refused inner_of legal durations_fit owners_fit vms_served has_slot vms_rest slots_rest every some up_to joined is_field stored write due deliver enter shown highest set_bit clear_bit pend is_fresh is_blank front_of rest others popped pushed padded_of counted_of next_clock each rest_fresh saving runner_of entering turn_by passed turn state_after moments entries_of lawful kept holders_fit permissions_fit ranges_fit few_each held how_many alike_all all_agree bytes_rest words_rest zeros read_regions region_fault place_fault agrees_all copy_shown tabled memory_as copying_from copy_failure first_failure extent_failure inside copied_all copiedBytes allowed granted_all granted allows
+unfolding vectors lines_in call_shown removed_shown counts_shown broken_states clauses_of good read_image read_end read_slots read_vms core_fault owner_fault slot_fault vm_fault step_of refusal_of row_of sound queued_ready none_ready standings_known done start_core tick_clock tick_turn tick_queue called_from running_without refused inner_of legal durations_fit owners_fit vms_served has_slot vms_rest slots_rest every some up_to joined is_field stored write due deliver enter shown highest set_bit clear_bit pend is_fresh is_blank front_of rest others popped pushed padded_of counted_of next_clock each rest_fresh saving runner_of entering turn_by passed turn state_after moments entries_of lawful kept holders_fit permissions_fit ranges_fit few_each held how_many alike_all all_agree bytes_rest words_rest zeros read_regions region_fault place_fault agrees_all copy_shown tabled memory_as copying_from copy_failure first_failure extent_failure inside copied_all copiedBytes allowed granted_all granted allows
 computed =
     record { vectors = refl; good = refl; broken = refl; unsound = (refl, (refl, (refl, (refl, (refl, (refl, (refl, (refl, (refl, (refl, (refl, (refl, (refl, (refl, (refl, (refl, (refl, (refl, tt)))))))))))))))))) }
 

@@ -1,5 +1,6 @@
 -- The Copies of P14 to P22: what is told of one, and the window after it.
-use Rattle.std.specs.Prelude.{suc, zero, ℕ, ◌%◌, ◌+◌, leb, ltb, get_or, List, [], ◌∷◌}
+use Rattle.std.specs.Prelude.{suc, zero, ℕ, ◌%◌, ◌+◌, leb, ltb, get_or, List, [], map, ◌∷◌}
+use Rattle.std.specs.List.{range_with_len}
 use Rattle.basis.specs.Choice.{both, pick}
 use Rattle.rig_core.specs.Events.{step_of}
 use Rattle.rig_core.specs.Memory.{memory_after}
@@ -16,19 +17,7 @@ use Rattle.window.specs.declared.Pieces.{Pieces}
 
 -- a count, the next address 0x1010, and up to eight extents, with zeros behind them
 abbrev pub asking : ℕ → List Extent → Pieces
-asking n xs =
-    record {
-      count = n;
-      next = 0x1010;
-      first = get_or xs 0 no_extent;
-      second = get_or xs 1 no_extent;
-      third = get_or xs 2 no_extent;
-      fourth = get_or xs 3 no_extent;
-      fifth = get_or xs 4 no_extent;
-      sixth = get_or xs 5 no_extent;
-      seventh = get_or xs 6 no_extent;
-      eighth = get_or xs 7 no_extent;
-    }
+asking n xs = record { count = n; next = 0x1010; extents = map (λ k. get_or xs k no_extent) (range_with_len 0 8) }
 
 -- with a window of 512 bytes
 abbrev pub copy_of : ℕ → List Extent → Event

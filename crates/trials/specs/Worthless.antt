@@ -1,5 +1,5 @@
 -- Behaviours that are not to pass: worthless cores, and ours with one easy mistake in it (M1 to M7).
-use Rattle.std.specs.Prelude.{suc, zero, ℕ, ◌%◌, ◌+◌, ◌-◌, ◌^◌, eqb, ltb, get_or, Bool, not, List, ◌∷◌}
+use Rattle.std.specs.Prelude.{suc, zero, ℕ, ◌%◌, ◌+◌, ◌-◌, ◌^◌, eqb, ltb, get_or, Bool, not, List, ◌∷◌, Option, Some, None}
 use Rattle.basis.specs.Bits.{bit}
 use Rattle.basis.specs.Choice.{both, pick}
 use Rattle.basis.specs.Nobody.{nobody}
@@ -18,14 +18,11 @@ use Rattle.event.specs.declared.Event.{Event}
 use Rattle.guest.specs.Deliver.{back_from, deliver, deliver_by, quiet, shown}
 use Rattle.guest.specs.Record.{fresh, pend, saved_at, with_pending, with_status}
 use Rattle.guest.specs.declared.Delivery.{Delivery}
-use Rattle.guest.specs.declared.Found.TheVariants.{At, Nothing}
-use Rattle.guest.specs.declared.Found.{Found}
 use Rattle.guest.specs.declared.Vm.{Vm}
 use Rattle.history.specs.History.{Behaviour}
 use Rattle.promises.specs.Delivering.{call_delivers}
 use Rattle.queue.specs.Entries.{entries, front_of, holding, raised}
-use Rattle.vms.specs.Tick.{passed, runner_of, turn_to}
-use Rattle.vms.specs.declared.Turn.{Turn}
+use Rattle.vms.specs.Tick.{Turn, passed, runner_of, turn_to}
 
 -- ---- parts
 
@@ -153,9 +150,9 @@ delivering_by d i c (Fault k x) = inner_of c (Fault k x)
 delivering_by d i c (Copy p w) = inner_of c (Copy p w)
 
 -- nothing is pending any more
-abbrev pub emptied : Vm → Found → Vm
-emptied w Nothing = w
-emptied w (At n) = with_status w (with_pending w.status 0)
+abbrev pub emptied : Vm → Option ℕ → Vm
+emptied w None = w
+emptied w (Some n) = with_status w (with_pending w.status 0)
 
 unfoldable pub deliver_empty : ℕ → Vm → Delivery
 deliver_empty handler v = record { vm = emptied (deliver handler v).vm (deliver handler v).number; number = (deliver handler v).number }
@@ -165,13 +162,13 @@ abbrev pub empties_pending : Behaviour
 empties_pending = delivering_by deliver_empty (λ n. deliver_empty)
 
 -- the first, or else the second
-abbrev pub or_else : Found → Found → Found
-or_else Nothing y = y
-or_else (At n) y = At n
+abbrev pub or_else : Option ℕ → Option ℕ → Option ℕ
+or_else None y = y
+or_else (Some n) y = Some n
 
-unfoldable pub lowest : (ℕ → Bool) → ℕ → Found
-lowest p zero = Nothing
-lowest p (suc n) = or_else (lowest p n) (pick (p n) (At n) Nothing)
+unfoldable pub lowest : (ℕ → Bool) → ℕ → Option ℕ
+lowest p zero = None
+lowest p (suc n) = or_else (lowest p n) (pick (p n) (Some n) None)
 
 unfoldable pub deliver_low : ℕ → Vm → Delivery
 deliver_low handler v = deliver_by handler v (lowest (λ n. both (bit n v.status.pending) (bit n v.status.enabled)) 32)
@@ -186,7 +183,7 @@ inject_waits = delivering_by deliver (λ n handler v. quiet v)
 
 -- D27: service 2 delivers only the number that it was given, though a higher one is pending and enabled
 abbrev pub injects_its_own : Behaviour
-injects_its_own = delivering_by deliver (λ n handler v. deliver_by handler v (pick (bit n v.status.enabled) (At n) Nothing))
+injects_its_own = delivering_by deliver (λ n handler v. deliver_by handler v (pick (bit n v.status.enabled) (Some n) None))
 
 -- M5: delivers 11 when the master asks for the shutdown
 abbrev pub shuts_at_once : Behaviour

@@ -1,27 +1,29 @@
 -- Laws of the eight records: loops over them, reads and stores by a number modulo 8.
-use Prim.Native.Nat.{min, suc, zero, ℕ, ◌%◌, ◌+◌, ◌-◌, ◌<◌, ◌≤◌}
-use borrow.Author.Tests.{le-ltb, lt-ltb, ltb-false, ltb-true}
+use Prim.Native.Nat.{min, suc, zero, ℕ, ◌+◌, ◌-◌, ◌<◌, ◌≤◌}
+use borrow.Author.Tests.{le-ltb, lt-ltb}
 use lib.Dec.{ltb}
-use lib.ListN.{get_or-eq_default, get_or, length, length-set, set}
-use lib.Seq.{get_or-set_other, get_or-set_same, set-get_or, set_out}
-use mathlib.Core.Bool.{Bool, false, not, true}
+use lib.ListN.{get_or, length, length-set, set}
+use lib.Seq.{get_or-set_other, get_or-set_same, set_out}
+use mathlib.Core.Bool.{Bool, false, true}
 use mathlib.Core.List.{List, [], ◌∷◌}
 use mathlib.Core.Logic.{◌≢◌}
 use mathlib.Core.Path.{ap, refl, sym, ◌∙◌, ◌≡◌}
 use native.Mathlib.Decide.{dec_lt, ℕ_discrete}
-use native.Mathlib.Nat.{add-suc, add-zero, mod-eq_of_lt}
+use native.Mathlib.Nat.{add-suc, add-zero}
 use native.Mathlib.Omega.{arith}
-use Rattle.basis.proofs.Laws.{false_true, up_to_more}
-use Rattle.basis.specs.Choice.{pick}
+use Rattle.basis.proofs.Laws.{up_to_more}
+use Rattle.basis.specs.Choice.{either, pick}
 use Rattle.basis.specs.Count.{up_to}
 use Rattle.basis.specs.Nobody.{nobody}
 use Rattle.config.specs.Sizes.{is_spare}
-use Rattle.guest.specs.Deliver.{enter, quiet}
-use Rattle.guest.specs.Record.{fresh, is_ready, older, saved_at}
-use Rattle.guest.specs.declared.Delivery.{Delivery}
+use Rattle.guest.specs.Record.{fresh, is_fresh, is_ready}
 use Rattle.guest.specs.declared.Vm.{Vm}
-use Rattle.vms.specs.Records.{aged_all, each, standings_of}
-use Rattle.vms.specs.Tick.{entering, number_of, passed, runner_of, saving, turn, turn_by, turn_to}
+use Rattle.vms.specs.Records.{each, standings_of}
+use Rattle.vms.specs.Tick.{passed, runner_of, turn, turn_by}
+
+-- W2, of record k
+abbrev pub unused_fresh : ℕ → List Vm → ℕ → Bool
+unused_fresh count l k = either (ltb k count) (is_fresh (get_or l k fresh))
 
 module _ (f : ℕ → Vm → Vm) where
   pub each_none : (l : List Vm) → l ≡ each f 0 l
@@ -97,33 +99,6 @@ eight (a ∷ b ∷ c ∷ d ∷ e ∷ f ∷ g ∷ []) q = absurd (omega arith)
 eight (a ∷ b ∷ c ∷ d ∷ e ∷ f ∷ g ∷ h ∷ []) q = refl
 eight (a ∷ b ∷ c ∷ d ∷ e ∷ f ∷ g ∷ h ∷ i ∷ l) q = absurd (omega arith)
 
--- a record past the last is the fresh one, and a store there changes nothing
-pub vm_past : (l : List Vm) (i : ℕ) (v : Vm) → length l ≡ 8 → 8 ≤ i → v ≡ fresh → v ≡ get_or l i fresh
-vm_past l i v e h f = f ∙ sym (get_or-eq_default l fresh (omega arith))
-
--- a number below 8 is itself modulo 8
-mod_8 : (i : ℕ) → ltb i 8 ≡ true → i % 8 ≡ i
-mod_8 i e = let h = ltb-true i 8 e in mod-eq_of_lt h
-
--- D3, as the code stores it
-pub saved_law : (l : List Vm) (r at : ℕ) (s : Vm) → s ≡ pick (ltb r 8) (saved_at at (get_or l (r % 8) fresh)) (get_or l (r % 8) fresh) → set l (r % 8) s ≡ saving r at l
-unfolding saving
-saved_law l r at s e = go (ltb r 8) refl
-  where
-    go : (b : Bool) → ltb r 8 ≡ b → set l (r % 8) s ≡ pick b (set l r (saved_at at (get_or l r fresh))) l
-    go true f = (let g = mod_8 r f in rw (rw (f, g) at e, g))
-    go false f = (rw (rw f at e) (set-get_or l (r % 8) fresh))
-
--- D6, D7, as the code chooses
-pub runner_law : (l : List Vm) (owner head who : ℕ) (b : Bool) → length l ≡ 8 → b ≡ is_ready (get_or l (owner % 8) fresh)
-    → who ≡ pick (is_spare owner) head (pick (ltb owner 8) (pick b owner nobody) nobody) → who ≡ runner_of owner head l
-unfolding runner_of
-runner_law l owner head who b h e f = go (ltb owner 8) refl
-  where
-    go : (t : Bool) → ltb owner 8 ≡ t → who ≡ pick (is_spare owner) head (pick (is_ready (get_or l owner fresh)) owner nobody)
-    go true g = rw (g, e, mod_8 owner g) at f
-    go false g = (let p : length l ≤ owner = omega (arith, ltb-false owner 8 g) in rw (get_or-eq_default l fresh p) (rw g at f))
-
 -- at a tick that is not spare it does not matter who would be served
 pub turn_served : (l : List Vm) (handlers : List ℕ) (running at count owner head other left : ℕ)
     → turn running at count owner (pick (is_spare owner) head other) left handlers l ≡ turn running at count owner head left handlers l
@@ -134,50 +109,3 @@ turn_served l handlers running at count owner head other left = go (is_spare own
         ≡ turn_by (pick b head (pick (is_ready (get_or (passed running at count l) owner fresh)) owner nobody)) left handlers (passed running at count l)
     go true = refl
     go false = refl
-
--- D8, D9, as the code stores them
-pub entered_law : (l : List Vm) (handlers : List ℕ) (who left address number : ℕ) (d : Delivery) → length l ≡ 8
-    → d ≡ pick (ltb who 8) (enter left (get_or handlers (who % 8) 0) (get_or l (who % 8) fresh)) (quiet (get_or l (who % 8) fresh))
-    → address ≡ pick (ltb who 8) d.vm.address 0 → number ≡ number_of d.number
-    → record { vms = set l (who % 8) d.vm; who = who; address = address; number = number } ≡ turn_by who left handlers l
-unfolding turn_by entering
-entered_law l handlers who left address number d h e a n = go (ltb who 8) refl
-  where
-    go : (t : Bool) → ltb who 8 ≡ t → record { vms = set l (who % 8) d.vm; who = who; address = address; number = number } ≡ turn_to who (pick t (enter left (get_or handlers who 0) (get_or l who fresh)) (quiet (get_or l who fresh))) l
-    go true g =
-        (let m = mod_8 who g in
-        let dd : d ≡ enter left (get_or handlers who 0) (get_or l who fresh) = rw (g, m) at e in
-        let low : who < length l = omega (arith, ltb-true who 8 g) in
-        rw (n, rw g at a, m, ← dd, get_or-set_same l who d.vm fresh low))
-    go false g =
-        (let dd : d ≡ quiet (get_or l (who % 8) fresh) = rw g at e in
-        let far : length l ≤ who = omega (arith, ltb-false who 8 g) in
-        rw (n, rw g at a, dd, set-get_or l (who % 8) fresh, set_out l who (get_or l who fresh) far, get_or-eq_default l fresh far))
-
--- the whole tick
-pub turn_law : (l w : List Vm) (handlers : List ℕ) (running at count owner head left who k address number : ℕ) (s : Vm) (b : Bool) (d : Delivery) → length l ≡ 8
-    → s ≡ pick (ltb running 8) (saved_at at (get_or l (running % 8) fresh)) (get_or l (running % 8) fresh)
-    → w ≡ aged_all k (set l (running % 8) s) → k ≡ min count 8
-    → b ≡ is_ready (get_or w (owner % 8) fresh)
-    → who ≡ pick (is_spare owner) head (pick (ltb owner 8) (pick b owner nobody) nobody)
-    → d ≡ pick (ltb who 8) (enter left (get_or handlers (who % 8) 0) (get_or w (who % 8) fresh)) (quiet (get_or w (who % 8) fresh))
-    → address ≡ pick (ltb who 8) d.vm.address 0 → number ≡ number_of d.number
-    → record { vms = set w (who % 8) d.vm; who = who; address = address; number = number } ≡ turn running at count owner head left handlers l
-unfolding turn passed
-turn_law l w handlers running at count owner head left who k address number s b d h hs hw hk hb hwho hd ha hn =
-    let first : set l (running % 8) s ≡ saving running at l = saved_law l running at s hs in
-    let long : length (set l (running % 8) s) ≡ 8 = length-set l (running % 8) s ∙ h in
-    let p : w ≡ aged_all count (set l (running % 8) s) = each_end (λ k v. older v) (set l (running % 8) s) w k count long hw hk in
-    let pp : w ≡ aged_all count (saving running at l) = p ∙ ap (aged_all count) first in
-    let wl : length w ≡ 8 = ap length p ∙ each_length (λ k v. older v) (set l (running % 8) s) count ∙ long in
-    let q : who ≡ runner_of owner head w = runner_law w owner head who b wl hb hwho in
-    entered_law w handlers who left address number d wl hd ha hn ∙ ap (λ (x : ℕ). turn_by x left handlers w) q ∙ ap (λ (x : List Vm). turn_by (runner_of owner head x) left handlers x) pp
-
--- a test of the code that was turned round
-pub test_failed : (b p : Bool) → b ≡ p → not b ≡ true → p ≡ false
-test_failed true p e f = false_true f
-test_failed false p e f = sym e
-
-pub test_passed : (b p : Bool) → b ≡ p → not b ≡ false → p ≡ true
-test_passed true p e f = sym e
-test_passed false p e f = false_true (sym f)

@@ -1,21 +1,25 @@
 -- What a tick does to the VM records (D3, D4, D6 to D9). A number from 8 on is no VM's.
-use Rattle.std.specs.Prelude.{ℕ, ltb, get_or, set, List}
+use Rattle.std.specs.Prelude.{ℕ, ltb, get_or, set, List, Option, Some, None}
 use Rattle.basis.specs.Choice.{pick}
 use Rattle.basis.specs.Nobody.{nobody}
 use Rattle.config.specs.Sizes.{is_spare}
 use Rattle.guest.specs.Deliver.{enter, quiet}
 use Rattle.guest.specs.Record.{fresh, is_ready, saved_at}
 use Rattle.guest.specs.declared.Delivery.{Delivery}
-use Rattle.guest.specs.declared.Found.TheVariants.{At, Nothing}
-use Rattle.guest.specs.declared.Found.{Found}
 use Rattle.guest.specs.declared.Vm.{Vm}
 use Rattle.vms.specs.Records.{aged_all}
-use Rattle.vms.specs.declared.Turn.{Turn}
+
+-- the records after a tick, who runs and where, and what was delivered; NOBODY for none
+pub record Turn : Type 0 where
+  pub vms : List Vm
+  pub who : ℕ
+  pub address : ℕ
+  pub number : ℕ
 
 -- A3, C8: the pseudo-interrupt's number, if there is one
-abbrev pub number_of : Found → ℕ
-number_of Nothing = nobody
-number_of (At n) = n
+abbrev pub number_of : Option ℕ → ℕ
+number_of None = nobody
+number_of (Some n) = n
 
 -- D3: the address given is where the VM that was running goes on
 unfoldable pub saving : ℕ → ℕ → List Vm → List Vm

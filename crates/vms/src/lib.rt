@@ -1,50 +1,36 @@
-// The eight VM records of a core: reading and replacing one, starting them, and what a tick does to them.
+// The eight VM records of a core, lent where they stand: reading and replacing one, starting them, and the parts of a tick.
 #![tactic(auto)]
 
 ghost use Rattle.std.specs.Prelude.{min, ltb, get_or, set, ◌≡◌};
-ghost use Rattle.basis.specs.Choice.{either, pick};
+ghost use Rattle.basis.specs.Choice.{pick};
 ghost use Rattle.basis.specs.Nobody.{nobody};
 ghost use Rattle.config.specs.Sizes.{is_spare};
-ghost use Rattle.guest.specs.Record.{fresh, is_fresh};
-ghost use Rattle.vms.specs.Records.{rest_fresh, standings_of, started_all};
-ghost use Rattle.vms.specs.Tick.{number_of, turn};
+ghost use Rattle.guest.specs.Record.{fresh};
+ghost use Rattle.vms.specs.Records.{aged_all, rest_fresh, standings_of, started_all};
+ghost use Rattle.vms.specs.Tick.{number_of, saving};
 
 use config::Config;
-use guest::{Found, Vm};
-
-// The records after a tick, who runs and where, and what was delivered; NOBODY for none.
-#[derive(Clone, Copy)]
-pub struct Turn {
-    pub vms: [Vm; 8],
-    pub who: u8,
-    pub address: u32,
-    pub number: u8,
-}
+use guest::Vm;
 
 // Record i; the fresh record past the last.
-pub fn vm_at(vms: [Vm; 8], i: u8) -> Vm
-    ensures { result ≡ get_or vms i fresh }
+pub fn vm_at(vms: &[Vm; 8], i: u8) -> Vm
+    ensures { result ≡ get_or vms.now i fresh }
 {
-    let k = i as usize;
-    if k < 8 { vms[k] } else { Vm::fresh() }
+    if i < 8 { vms[i as usize] } else { Vm::fresh() }
 }
 
 // Record i replaced (K2); past the last there is none.
-pub fn with_vm(vms: [Vm; 8], i: u8, vm: Vm) -> [Vm; 8]
-    ensures { result ≡ set vms i vm }
+pub fn put_vm(vms: &mut [Vm; 8], i: u8, vm: Vm)
+    ensures { vms.new ≡ set vms.old i vm }
 {
-    let k = i as usize;
-    if k < 8 {
-        let mut w = vms;
-        w[k] = vm;
-        return w;
+    if i < 8 {
+        vms[i as usize] = vm;
     }
-    vms
 }
 
 // The standings, as numbers.
-pub fn standings(vms: [Vm; 8]) -> [u8; 8]
-    ensures { result ≡ standings_of vms }
+pub fn standings(vms: &[Vm; 8]) -> [u8; 8]
+    ensures { result ≡ standings_of vms.now }
 {
     [
         vms[0].standing,
@@ -58,94 +44,42 @@ pub fn standings(vms: [Vm; 8]) -> [u8; 8]
     ]
 }
 
-// W2: whether the records past the VM count are as in a fresh state; one test after the other, since none need be made of those in use.
-pub fn rest_fresh(vms: [Vm; 8], count: u8) -> bool
-    ensures { result ≡ rest_fresh count vms }
+// W2: whether the records past the VM count are as in a fresh state.
+pub fn rest_fresh(vms: &[Vm; 8], count: u8) -> bool
+    ensures { result ≡ rest_fresh count vms.now }
 {
-    if !used_or_fresh(7, count, vms[7]) {
-        return false;
-    }
-    if !used_or_fresh(6, count, vms[6]) {
-        return false;
-    }
-    if !used_or_fresh(5, count, vms[5]) {
-        return false;
-    }
-    if !used_or_fresh(4, count, vms[4]) {
-        return false;
-    }
-    if !used_or_fresh(3, count, vms[3]) {
-        return false;
-    }
-    if !used_or_fresh(2, count, vms[2]) {
-        return false;
-    }
-    if !used_or_fresh(1, count, vms[1]) {
-        return false;
-    }
-    if !used_or_fresh(0, count, vms[0]) {
-        return false;
+    for k in 0..8u8 {
+        if count <= k && !vms[k as usize].is_fresh() {
+            return false;
+        }
     }
     true
 }
 
-fn used_or_fresh(k: u8, count: u8, vm: Vm) -> bool
-    ensures { result ≡ either (ltb k count) (is_fresh vm) }
-{
-    if k < count { true } else { vm.is_fresh() }
-}
-
 // D1: each VM ready at its entry.
-pub fn started(vms: [Vm; 8], count: u8, entries: &[u32; 8]) -> [Vm; 8]
-    ensures { result ≡ started_all count entries.now vms }
+pub fn start_all(vms: &mut [Vm; 8], count: u8, entries: &[u32; 8])
+    ensures { vms.new ≡ started_all count entries.now vms.old }
 {
-    let n = at_most_8(count);
-    let mut w = vms;
-    let mut k: usize = 0;
-    while k < n {
-        w[k] = Vm::started(entries[k]);
-        k = k + 1;
+    for k in 0..at_most_8(count) {
+        vms[k] = Vm::started(entries[k]);
     }
-    w
 }
 
-// A tick: the address saved, all VMs older, the VM that runs chosen and entered (D3, D4, D6 to D9).
-pub fn turned(
-    vms: [Vm; 8],
-    running: u8,
-    at: u32,
-    count: u8,
-    owner: u8,
-    head: u8,
-    left: u32,
-    handlers: &[u32; 8],
-) -> Turn
-    ensures { result ≡ turn running at count owner head left handlers.now vms }
+// D3: record i with the address where its VM goes on (K2); past the last nothing changes.
+pub fn save(vms: &mut [Vm; 8], i: u8, at: u32)
+    ensures { vms.new ≡ saving i at vms.old }
 {
-    let mut w = vms;
-    let r = (running % 8) as usize;
-    let a = w[r];
-    w[r] = a.saved_if(running < 8, at);
-    let n = at_most_8(count);
-    let mut k: usize = 0;
-    while k < n {
-        let v = w[k];
-        w[k] = v.older_if(true);
-        k = k + 1;
+    if i < 8 {
+        vms[i as usize] = vms[i as usize].saved(at);
     }
-    let o = w[(owner % 8) as usize];
-    let who = runner(owner, head, o.is_ready());
-    let e = (who % 8) as usize;
-    let x = w[e];
-    let d = x.entered_if(who < 8, left, handlers[e]);
-    let y = d.vm;
-    let f = d.number;
-    w[e] = y;
-    Turn {
-        vms: w,
-        who: who,
-        address: if_vm(who, y.address),
-        number: number_of(f),
+}
+
+// D4: each VM one tick older (T4, K4).
+pub fn age_all(vms: &mut [Vm; 8], count: u8)
+    ensures { vms.new ≡ aged_all count vms.old }
+{
+    for i in 0..at_most_8(count) {
+        vms[i] = vms[i].older();
     }
 }
 
@@ -156,35 +90,22 @@ pub fn runner(owner: u8, head: u8, ready: bool) -> u8
     if owner == Config::SPARE {
         return head;
     }
-    if owner < 8 {
-        if ready {
-            return owner;
-        }
-        return basis::NOBODY;
+    if owner < 8 && ready {
+        return owner;
     }
     basis::NOBODY
 }
 
-// An address that is a VM's; 0 from 8 on (A7).
-pub fn if_vm(who: u8, address: u32) -> u32
-    ensures { result ≡ pick (ltb who 8) address 0 }
-{
-    if who < 8 { address } else { 0 }
-}
-
 // The number of a pseudo-interrupt, or NOBODY for none (A3).
-pub fn number_of(f: Found) -> u8
+pub fn number_of(f: Option<u8>) -> u8
     ensures { result ≡ number_of f }
 {
-    match f {
-        Found::Nothing => basis::NOBODY,
-        Found::At(n) => n,
-    }
+    f.unwrap_or(basis::NOBODY)
 }
 
 // A count that the eight records bear.
 pub fn at_most_8(count: u8) -> usize
     ensures { result ≡ min count 8 }
 {
-    if count < 8 { count as usize } else { 8 }
+    count.min(8) as usize
 }

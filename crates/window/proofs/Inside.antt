@@ -19,9 +19,9 @@ module _ (w : Window) (a n : ℕ) where
   unfolding inside
   inside_low h = rw (lt-leb w.base a h)
 
-  pub inside_far : w.base ≤ a → w.size < a - w.base → false ≡ inside w a n
+  pub inside_far : w.base ≤ a → w.size < a - w.base → leb (a - w.base) w.size ≡ inside w a n
   unfolding inside
-  inside_far h g = rw (le-leb w.base a h, lt-leb (a + n) (w.base + w.size) (omega arith))
+  inside_far h g = rw (lt-leb (a - w.base) w.size g, le-leb w.base a h, lt-leb (a + n) (w.base + w.size) (omega arith))
 
   pub inside_is : w.base ≤ a → a - w.base ≤ w.size → leb n (w.size - (a - w.base)) ≡ inside w a n
   unfolding inside

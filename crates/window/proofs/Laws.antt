@@ -1,37 +1,20 @@
 -- The turns of the loops that copy.
 use Prim.Native.Nat.{ℕ, ◌+◌, ◌-◌, ◌<◌}
-use lib.ListN.{drop, get_or, length, length-drop, set, take}
-use lib.Seq.{get_or-drop, paste-suc, paste-zero, take-suc, take-suc-set}
+use lib.ListN.{drop, get_or, length, take}
+use lib.Seq.{paste-zero, take-suc}
 use mathlib.Core.List.{List, [], ◌++◌, ◌∷◌}
 use mathlib.Core.Path.{ap, refl, sym, ◌∙◌, ◌≡◌}
 use native.Mathlib.Numerals.{add-one}
 use native.Mathlib.Omega.{arith}
-use Rattle.window.specs.Bytes.{copied, put}
+use Rattle.std.specs.List.{copy_within}
+use Rattle.window.specs.Bytes.{copied}
 use Rattle.window.specs.Pieces.{copied_all, moved, no_extent}
 use Rattle.window.specs.declared.Extent.{Extent}
 
--- one byte more is held
-pub hold_more : (m held : List ℕ) (from k : ℕ) → k < length held → from + k < length m → take k held ≡ take k (drop from m)
-    → take (k + 1) (set held k (get_or m (from + k) 0)) ≡ take (k + 1) (drop from m)
-hold_more m held from k h g e =
-    rw add-one
-    (take-suc-set held k (get_or m (from + k) 0) h
-    ∙ ap (λ (l : List ℕ). l ++ (get_or m (from + k) 0 ∷ [])) e
-    ∙ ap (λ (x : ℕ). take k (drop from m) ++ (x ∷ [])) (sym (get_or-drop from m k 0))
-    ∙ sym (take-suc (drop from m) k 0 (let l = length-drop from m in omega arith)))
-
--- one byte more is put
-pub put_none : (to : ℕ) (held m : List ℕ) → m ≡ put to 0 held m
-put_none to held m = paste-zero m to held
-
-pub put_more : (to k : ℕ) (held m₀ m : List ℕ) → to + k < length m₀ → k < length held → m ≡ put to k held m₀
-    → set m (to + k) (get_or held k 0) ≡ put to (k + 1) held m₀
-put_more to k held m₀ m h g e = rw (add-one k, e) (paste-suc m₀ to held k 0 h g)
-
--- what was held is put
-pub copied_is : (from to n : ℕ) (held m x : List ℕ) → take n held ≡ take n (drop from m) → x ≡ put to n held m → x ≡ copied from to n m
+-- bytes copied within the memory
+pub moved_is : (base : ℕ) (x : Extent) (m m' : List ℕ) → m' ≡ copy_within m (x.source - base) (x.source - base + x.length) (x.destination - base) → m' ≡ moved base x m
 unfolding copied
-copied_is from to n held m x e f = f ∙ ap (λ (l : List ℕ). take to m ++ l ++ drop (to + n) m) e
+moved_is base x m m' e = let n : x.source - base + x.length - (x.source - base) ≡ x.length = omega arith in rw n at e
 
 -- no bytes, no change
 pub moved_none : (base : ℕ) (x : Extent) (m : List ℕ) → x.length ≡ 0 → m ≡ moved base x m

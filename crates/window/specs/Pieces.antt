@@ -15,7 +15,7 @@ no_extent = extent_of 0 0 0
 
 -- E13: all eight, in their order
 abbrev pub extents : Pieces → List Extent
-extents p = p.first ∷ p.second ∷ p.third ∷ p.fourth ∷ p.fifth ∷ p.sixth ∷ p.seventh ∷ p.eighth ∷ []
+extents p = p.extents
 
 -- E14: what the core sees of a memory that is lent with a base address
 abbrev pub window_of : ℕ → List ℕ → Window

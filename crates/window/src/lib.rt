@@ -1,14 +1,12 @@
 // The window (E14): memory that a host lends for a Copy; what a Copy asks for (E13), and the copying itself (D36).
 #![tactic(auto)]
 
-mod bytes;
-
 ghost use Rattle.std.specs.Prelude.{ℕ, ◌<◌, ◌≤◌, get_or, length, take, true, ◌≡◌};
 ghost use Rattle.window.specs.Pieces.{copied_all, extents, fits, inside, moved, no_extent, window_of};
 
 // One piece of a Copy (E13).
 #[repr(C)]
-#[derive(Clone, Copy)]
+#[derive(Clone, Copy, Default)]
 pub struct Extent {
     pub source: u32,
     pub destination: u32,
@@ -21,14 +19,7 @@ pub struct Extent {
 pub struct Pieces {
     pub count: u8,
     pub next: u32,
-    pub first: Extent,
-    pub second: Extent,
-    pub third: Extent,
-    pub fourth: Extent,
-    pub fifth: Extent,
-    pub sixth: Extent,
-    pub seventh: Extent,
-    pub eighth: Extent,
+    pub extents: [Extent; 8],
 }
 
 // What the core sees of the memory (D37): where it begins, and how many bytes it has.
@@ -51,15 +42,7 @@ impl Pieces {
     pub fn extents(self) -> [Extent; 8]
         ensures { result ≡ extents self }
     {
-        let a = self.first;
-        let b = self.second;
-        let c = self.third;
-        let d = self.fourth;
-        let e = self.fifth;
-        let f = self.sixth;
-        let g = self.seventh;
-        let h = self.eighth;
-        [a, b, c, d, e, f, g, h]
+        self.extents
     }
 }
 
@@ -77,10 +60,7 @@ impl Window {
             return false;
         }
         let from = (address - self.base) as usize;
-        if self.size < from {
-            return false;
-        }
-        n as usize <= self.size - from
+        from <= self.size && n as usize <= self.size - from
     }
 }
 
@@ -89,25 +69,19 @@ pub fn copy_all(m: &mut [u8], base: u32, xs: [Extent; 8], n: usize)
     requires { (n ≤ 8) × ((k : ℕ) → k < n → fits (window_of base m.old) (get_or xs k no_extent) ≡ true) }
     ensures { m.new ≡ copied_all base (take n xs) m.old }
 {
-    let mut k: usize = 0;
-    while k < n {
-        let x = xs[k];
-        copy_extent(m, base, x.source, x.destination, x.length);
-        k = k + 1;
+    for x in &xs[..n] {
+        copy_extent(m, base, x);
     }
 }
 
-// One extent; one of length 0 may have any addresses (D34).
-fn copy_extent(m: &mut [u8], base: u32, source: u32, destination: u32, n: u32)
-    requires { fits (window_of base m.old) (record { source = source; destination = destination; length = n }) ≡ true }
-    ensures { m.new ≡ moved base (record { source = source; destination = destination; length = n }) m.old }
+// One extent, its bytes as they stood before, since the two ranges may overlap; one of length 0 may have any addresses (D34).
+fn copy_extent(m: &mut [u8], base: u32, x: &Extent)
+    requires { fits (window_of base m.old) x.now ≡ true }
+    ensures { m.new ≡ moved base x.now m.old }
 {
-    if n != 0 {
-        bytes::copy(
-            m,
-            (source - base) as usize,
-            (destination - base) as usize,
-            n as usize,
-        );
+    if x.length != 0 {
+        let from = (x.source - base) as usize;
+        let to = (x.destination - base) as usize;
+        m.copy_within(from..from + x.length as usize, to);
     }
 }

@@ -1,4 +1,5 @@
 -- Ours meets the second demand on the frame: no field and no address moves that the event does not name, and a Write stores its value.
+use Rattle.std.proofs.Common.{Option, Some, None}
 use Prim.Native.Nat.{ℕ, ◌<◌}
 use borrow.Author.Tests.{eq-eqb, eqb-false, eqb-true, le-leb, ne_eqb}
 use lib.Dec.{eqb, leb}
@@ -30,8 +31,6 @@ use Rattle.guest.proofs.Laws.{due_few}
 use Rattle.guest.specs.Deliver.{back_from, deliver, deliver_by, due, enter, shown}
 use Rattle.guest.specs.Record.{fresh, pend, saved_at}
 use Rattle.guest.specs.Write.{stored, write}
-use Rattle.guest.specs.declared.Found.TheVariants.{At, Nothing}
-use Rattle.guest.specs.declared.Found.{Found}
 use Rattle.guest.specs.declared.Status.{Status}
 use Rattle.guest.specs.declared.Vm.{Vm}
 use Rattle.history.proofs.Steps.{Reached, ours_at, vm_small}
@@ -88,9 +87,9 @@ deliver_field f h v = go (due v.status) refl
     out : (b : Bool) → both b true ≡ false → b ≡ false
     out b w = sym (both_yes b) ∙ w
 
-    go : (d : Found) → due v.status ≡ d → both (of_delivery f) (not (eqb (number_of (deliver_by h v d).number) 255)) ≡ false → value_of f (deliver_by h v d).vm.status ≡ value_of f v.status
-    go Nothing e z = refl
-    go (At n) e z = kept_field of_delivery (deliver_by h v (At n)).vm.status v.status refl f (out (of_delivery f) (rw (ne_eqb n 255 (λ q. omega (arith, due_few v.status n (sym e)))) at z))
+    go : (d : Option ℕ) → due v.status ≡ d → both (of_delivery f) (not (eqb (number_of (deliver_by h v d).number) 255)) ≡ false → value_of f (deliver_by h v d).vm.status ≡ value_of f v.status
+    go None e z = refl
+    go (Some n) e z = kept_field of_delivery (deliver_by h v (Some n)).vm.status v.status refl f (out (of_delivery f) (rw (ne_eqb n 255 (λ q. omega (arith, due_few v.status n (sym e)))) at z))
 
 shown_field : (f : Field) → of_tick f ≡ false → (l : ℕ) (v : Vm) → value_of f (shown l v).status ≡ value_of f v.status
 unfolding shown

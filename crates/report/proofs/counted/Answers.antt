@@ -1,10 +1,10 @@
 -- Each turn counts one log more.
-use Rattle.std.proofs.Common.{arith, refl, ◌∙◌}
+use Rattle.std.proofs.Common.{refl, ◌∙◌}
 use Rattle.report.proofs.counted.Goals as goal
 use Rattle.tally.proofs.Logs.{of_more, of_none}
 
 pub loop-k-init : goal.loop-k-init
-loop-k-init c = (omega arith, refl, of_none _ _ c.none-t.ensures)
+loop-k-init c = (refl, of_none _ _ c.none-t.ensures)
 
 pub loop-k-preserved : goal.loop-k-preserved
-loop-k-preserved c = (omega arith, c.read_opened.auto.buf ∙ c.loop-k.invariant.1, of_more _ c.loop-k.invariant.2 c.with_log-t.ensures)
+loop-k-preserved c = (c.read_opened.auto.buf ∙ c.loop-k.invariant.0, of_more _ c.loop-k.invariant.1 c.with_log-t.ensures)

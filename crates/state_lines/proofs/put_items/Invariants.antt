@@ -1,13 +1,8 @@
--- The first `k` numbers are put.
-use Prim.Native.Nat.{◌*◌, ◌+◌, ◌-◌, ◌≤◌}
-use lib.ListN.{length}
-use mathlib.Core.Path.{◌≡◌}
+-- The numbers so far are put.
+use Prim.Native.Nat.{◌*◌}
 use Rattle.state_lines.specs.State.{items_text}
-use Rattle.text.specs.Puts.{Puts}
+use Rattle.text.specs.Adds.{Adds}
 use Rattle.state_lines.proofs.put_items.Given as goal
 
-abbrev pub invariant-loop-k : goal.invariant-loop-k
-invariant-loop-k l = (l.k ≤ l.m) × (l.to ≤ l.at + l.k * 11) × (length l.b ≡ length l.initial.b) × Puts (items_text l.items l.k) l.initial.b l.at l.b l.to
-
-abbrev pub decreases-loop-k : goal.decreases-loop-k
-decreases-loop-k l = l.m - l.k
+abbrev pub invariant-loop-item : goal.invariant-loop-item
+invariant-loop-item l = Adds (items_text l.items l.item-index) (l.item-index * 11) l.initial.page l.page

@@ -1,11 +1,8 @@
--- The five parts of a state, or nothing.
-use Rattle.lines.proofs.Texts.{puts_none}
-use Rattle.text.proofs.Puts.{puts_then}
-use native.Mathlib.Omega.{arith}
+-- The five parts of a state.
+use Rattle.state_lines.specs.State.{state_text}
+use Rattle.text.proofs.Adds.{adds_then}
 use Rattle.state_lines.proofs.put_states.Goals as goal
 
-pub returns-then-states : goal.returns-then-states
-returns-then-states c = rw c.if-states.true ((puts_then c.put_notice-a1.ensures.0 (puts_then c.put_clock-a2.ensures.0 (puts_then c.put_queue-a3.ensures.0 (puts_then c.put_counts-a4.ensures.0 c.put_vms.ensures.0)))), omega (arith, c.put_notice-a1.ensures.1, c.put_clock-a2.ensures.1, c.put_queue-a3.ensures.1, c.put_counts-a4.ensures.1, c.put_vms.ensures.1))
-
 pub returns : goal.returns
-returns c = rw c.if-states.false (puts_none _ _, omega arith)
+unfolding state_text
+returns c = adds_then c.put_notice.ensures (adds_then c.put_clock.ensures (adds_then c.put_queue.ensures (adds_then c.put_counts.ensures c.put_vms.ensures)))

@@ -1,9 +1,8 @@
 -- The parts of a VM's line.
-use native.Mathlib.Omega.{arith}
 use Rattle.state_lines.specs.State.{vm_text}
-use Rattle.text.proofs.Puts.{puts_then}
+use Rattle.text.proofs.Adds.{adds_then}
 use Rattle.state_lines.proofs.put_vm.Goals as goal
 
 pub returns : goal.returns
 unfolding vm_text
-returns c = (puts_then c.put_word-a1.ensures.0 (puts_then c.put_two-a2.ensures.0 (puts_then c.put_address-a3.ensures.0 (puts_then c.put_fields-a4.ensures.0 c.put_two_by.ensures.0))), omega (arith, c.put_word-a1.ensures.1, c.put_two-a2.ensures.1, c.put_address-a3.ensures.1, c.put_fields-a4.ensures.1, c.put_two_by.ensures.1))
+returns c = adds_then c.put_word.ensures (adds_then c.put_two.ensures (adds_then c.put_address.ensures (adds_then c.put_fields.ensures c.put_two-2.ensures)))

@@ -1,43 +1,31 @@
 -- The first record that fails, or none.
-use native.Mathlib.Omega.{arith}
-use Rattle.basis.proofs.Laws.{every_miss}
+use Rattle.std.proofs.Common.{refl, sym, ◌∙◌, true, arith}
+use borrow.Author.Tests.{le-ltb, lt-ltb}
+use Rattle.basis.proofs.Laws.{every_end, every_miss, every_more}
 use Rattle.basis.specs.Count.{every}
-use mathlib.Core.Path.{sym, ◌∙◌}
+use Rattle.vms.proofs.Laws.{unused_fresh}
 use Rattle.vms.specs.Records.{rest_fresh}
 use Rattle.vms.proofs.rest_fresh.Goals as goal
+use Rattle.vms.proofs.rest_fresh.Goals.{else-count-k-via-then-count-k+else-not-is_fresh, else-count-k-via-else-count-k}
 
-pub returns-then-not-used_or_fresh : goal.returns-then-not-used_or_fresh
-unfolding rest_fresh
-returns-then-not-used_or_fresh c = every_miss _ _ 7 (omega arith) (sym c.used_or_fresh.ensures ∙ c.if-not-used_or_fresh.true)
+pub loop-k-init : goal.loop-k-init
+unfolding every
+loop-k-init c = refl
 
-pub returns-then-not-used_or_fresh-2 : goal.returns-then-not-used_or_fresh-2
+pub returns-then-not-is_fresh : goal.returns-then-not-is_fresh
 unfolding rest_fresh
-returns-then-not-used_or_fresh-2 c = every_miss _ _ 6 (omega arith) (sym c.used_or_fresh-2.ensures ∙ c.if-not-used_or_fresh-2.true)
+returns-then-not-is_fresh c =
+    every_miss (unused_fresh c.args.count c.args.vms.now) 8 c.loop-k.k (omega (arith, c.loop-k-test.true))
+    (rw (le-ltb _ _ c.if-count-k.true) (sym c.is_fresh.ensures ∙ c.if-not-is_fresh.true))
 
-pub returns-then-not-used_or_fresh-3 : goal.returns-then-not-used_or_fresh-3
-unfolding rest_fresh
-returns-then-not-used_or_fresh-3 c = every_miss _ _ 5 (omega arith) (sym c.used_or_fresh-3.ensures ∙ c.if-not-used_or_fresh-3.true)
-
-pub returns-then-not-used_or_fresh-4 : goal.returns-then-not-used_or_fresh-4
-unfolding rest_fresh
-returns-then-not-used_or_fresh-4 c = every_miss _ _ 4 (omega arith) (sym c.used_or_fresh-4.ensures ∙ c.if-not-used_or_fresh-4.true)
-
-pub returns-then-not-used_or_fresh-5 : goal.returns-then-not-used_or_fresh-5
-unfolding rest_fresh
-returns-then-not-used_or_fresh-5 c = every_miss _ _ 3 (omega arith) (sym c.used_or_fresh-5.ensures ∙ c.if-not-used_or_fresh-5.true)
-
-pub returns-then-not-used_or_fresh-6 : goal.returns-then-not-used_or_fresh-6
-unfolding rest_fresh
-returns-then-not-used_or_fresh-6 c = every_miss _ _ 2 (omega arith) (sym c.used_or_fresh-6.ensures ∙ c.if-not-used_or_fresh-6.true)
-
-pub returns-then-not-used_or_fresh-7 : goal.returns-then-not-used_or_fresh-7
-unfolding rest_fresh
-returns-then-not-used_or_fresh-7 c = every_miss _ _ 1 (omega arith) (sym c.used_or_fresh-7.ensures ∙ c.if-not-used_or_fresh-7.true)
-
-pub returns-then-not-used_or_fresh-8 : goal.returns-then-not-used_or_fresh-8
-unfolding rest_fresh
-returns-then-not-used_or_fresh-8 c = every_miss _ _ 0 (omega arith) (sym c.used_or_fresh-8.ensures ∙ c.if-not-used_or_fresh-8.true)
+pub loop-k-preserved : goal.loop-k-preserved
+loop-k-preserved c =
+    every_more _ c.loop-k.k true true c.loop-k.invariant
+    (elim c.else-count-k.branch [
+      | else-count-k-via-then-count-k+else-not-is_fresh w ↦ rw (le-ltb _ _ w.if-count-k.true, ← w.is_fresh.ensures, w.if-not-is_fresh.false)
+      | else-count-k-via-else-count-k w ↦ rw (lt-ltb _ _ w.if-count-k.false)
+    ])
 
 pub returns : goal.returns
-unfolding rest_fresh every
-returns c = rw (sym c.used_or_fresh.ensures ∙ c.if-not-used_or_fresh.false, sym c.used_or_fresh-2.ensures ∙ c.if-not-used_or_fresh-2.false, sym c.used_or_fresh-3.ensures ∙ c.if-not-used_or_fresh-3.false, sym c.used_or_fresh-4.ensures ∙ c.if-not-used_or_fresh-4.false, sym c.used_or_fresh-5.ensures ∙ c.if-not-used_or_fresh-5.false, sym c.used_or_fresh-6.ensures ∙ c.if-not-used_or_fresh-6.false, sym c.used_or_fresh-7.ensures ∙ c.if-not-used_or_fresh-7.false, sym c.used_or_fresh-8.ensures ∙ c.if-not-used_or_fresh-8.false)
+unfolding rest_fresh
+returns c = every_end _ c.loop-k.k 8 true c.loop-k.invariant (omega arith)

@@ -1,18 +1,14 @@
 -- After k turns: the memory with the first k extents copied.
-use borrow.Author.Rules.{rules}
-use lib.ListN.{length}
-use mathlib.Core.Path.{refl, ◌∙◌, ◌≡◌}
-use native.Mathlib.Omega.{arith}
-use Rattle.basis.proofs.Laws.{length_mapped}
+use lib.ListN.{take}
+use mathlib.Core.Path.{refl, ◌∙◌}
 use Rattle.window.proofs.Laws.{copied_more, copied_none}
 use Rattle.window.proofs.copy_all.Goals as goal
 
-pub loop-k-init : goal.loop-k-init
-loop-k-init c = (omega arith, refl, copied_none c.args.base c.args.xs c.args.m.now)
+pub loop-x-init : goal.loop-x-init
+loop-x-init c = (refl, copied_none c.args.base c.args.xs c.args.m.now)
 
-pub loop-k-preserved : goal.loop-k-preserved
-loop-k-preserved c = let a = c.args in
-    let l = c.loop-k in
-    let s : length a.xs ≡ 8 = search (rules, length_mapped) in
+pub loop-x-preserved : goal.loop-x-preserved
+loop-x-preserved c = let a = c.args in
+    let l = c.loop-x in
     let d = c.copy_extent in
-    (omega arith, d.auto.m ∙ l.invariant.1, copied_more a.base a.xs l.k a.m.now l.m d.new.m (omega arith) l.invariant.2 d.ensures)
+    (d.auto.m ∙ l.invariant.0, copied_more a.base (take a.n a.xs) l.x-index a.m.now l.m d.new.m c.loop-x-test.true l.invariant.1 d.ensures)

@@ -1,8 +1,10 @@
--- The stores, one behind the other.
-use Rattle.std.proofs.Common.{rules}
-use Rattle.basis.specs.Buffer.{put_all}
+-- The library's bytes of a number are those of the definition, and what is copied is put there.
+use mathlib.Core.Path.{◌∙◌}
+use Prim.Native.Nat.{◌+◌}
+use native.Mathlib.Omega.{arith}
+use Rattle.basis.proofs.Buffer.{put_all_part}
+use Rattle.basis.specs.Numbers.{half_bytes}
 use Rattle.basis.proofs.numbers.put_half.Goals as goal
 
 pub returns : goal.returns
-unfolding put_all
-returns c = search rules
+returns c = put_all_part c.args.b.now (half_bytes c.args.n) _ c.args.at (c.args.at + 2) (omega arith) (omega arith) (c.copy_from_slice.ensures.after ∙ c.to_le_bytes.ensures)

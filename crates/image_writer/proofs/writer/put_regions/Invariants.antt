@@ -1,14 +1,10 @@
 -- The first `k` region records are put.
-use Prim.Native.Nat.{◌*◌, ◌+◌, ◌-◌, ◌≤◌}
-use lib.ListN.{get_or, length}
 use mathlib.Core.Path.{◌≡◌}
 use Rattle.basis.specs.Buffer.{put_all}
 use Rattle.basis.specs.Count.{joined}
+use Rattle.regions.specs.Rules.{holder_at, last_at, permission_at, start_at}
 use Rattle.image_writer.specs.Writer.{region_bytes}
 use Rattle.image_writer.proofs.writer.put_regions.Given as goal
 
 abbrev pub invariant-loop-k : goal.invariant-loop-k
-invariant-loop-k l = (l.k ≤ l.n) × (l.at ≡ l.from + l.k * 11) × (length l.b ≡ length l.initial.b) × (l.b ≡ put_all l.initial.b l.from (joined (λ j. region_bytes (get_or l.holders j 0) (get_or l.permissions j 0) (get_or l.starts j 0) (get_or l.lasts j 0)) l.k))
-
-abbrev pub decreases-loop-k : goal.decreases-loop-k
-decreases-loop-k l = l.n - l.k
+invariant-loop-k l = l.b ≡ put_all l.initial.b l.from (joined (λ j. region_bytes (holder_at l.r j) (permission_at l.r j) (start_at l.r j) (last_at l.r j)) l.k)

@@ -1,11 +1,10 @@
 -- The first `k` VM records are put.
-use mathlib.Core.Path.{refl, ◌∙◌}
-use native.Mathlib.Omega.{arith}
+use mathlib.Core.Path.{refl}
 use Rattle.basis.proofs.Buffer.{records_more, records_none}
 use Rattle.image_writer.proofs.writer.put_vms.Goals as goal
 
 pub loop-k-init : goal.loop-k-init
-loop-k-init c = (omega arith, refl, refl, records_none _ 9 (λ j. refl) _ 3)
+loop-k-init c = records_none _ 9 (λ j. refl) _ _
 
 pub loop-k-preserved : goal.loop-k-preserved
-loop-k-preserved c = (omega arith, omega arith, c.put_vm.auto.b ∙ c.loop-k.invariant.2, records_more _ 9 (λ j. refl) _ _ _ 3 _ _ c.loop-k.invariant.3 c.loop-k.invariant.1 c.put_vm.ensures)
+loop-k-preserved c = records_more _ 9 (λ j. refl) _ _ _ _ _ _ c.loop-k.invariant refl c.put_vm.ensures

@@ -1,10 +1,6 @@
--- An empty queue, or its first place.
-use Rattle.std.proofs.Common.{rules}
-use Rattle.queue.proofs.Meaning.{front_none, front_some}
+-- The first of the entries.
+use Rattle.queue.proofs.Meaning.{front_at}
 use Rattle.queue.proofs.Queue.front.Goals as goal
 
-pub returns-then-self-eq0 : goal.returns-then-self-eq0
-returns-then-self-eq0 c = search (rules, front_none)
-
 pub returns : goal.returns
-returns c = search (rules, front_some)
+returns c = rw (← c.entries.ensures) (front_at c.entries.result.now c.at.result c.at.ensures)

@@ -1,11 +1,8 @@
--- The loop has kept the entries below `k` that are not for v.
-use Rattle.std.proofs.Common.{◌≡◌, ◌-◌, ◌≤◌, length}
+-- The loop has kept the entries before where it stands that are not for v.
+use Rattle.std.proofs.Common.{◌≡◌, length, take}
 use Rattle.queue.proofs.Lists.{pad}
-use Rattle.queue.proofs.Turns.{kept}
+use Rattle.queue.specs.Entries.{others}
 use Rattle.queue.proofs.Queue.others.Given as goal
 
-abbrev pub invariant-loop-k : goal.invariant-loop-k
-invariant-loop-k l = (l.k ≤ 16) × (l.n ≤ l.k) × (l.n ≡ length (kept l.v l.len l.items l.k)) × (l.out ≡ pad (kept l.v l.len l.items l.k))
-
-abbrev pub decreases-loop-k : goal.decreases-loop-k
-decreases-loop-k l = 16 - l.k
+abbrev pub invariant-loop-entry : goal.invariant-loop-entry
+invariant-loop-entry l = (l.n ≡ length (others l.v (take l.entry-index l.entries))) × (l.items ≡ pad (others l.v (take l.entry-index l.entries)))

@@ -1,18 +1,11 @@
--- The loop has filled the places below `k`.
-use Rattle.std.proofs.Common.{◌≡◌, length, refl, arith, rules}
-use Rattle.queue.proofs.Turns.{filled_more, filled_none, popped_is}
-use Rattle.queue.specs.Entries.{popped}
+-- Without an entry as it was; else what is behind the first.
+use Rattle.std.proofs.Common.{rules, ℕ, ◌-◌, ap, ◌∙◌}
+use Rattle.queue.proofs.Turns.{popped_empty, popped_some}
 use Rattle.queue.proofs.Queue.popped.Goals as goal
 
-pub loop-k-init : goal.loop-k-init
-loop-k-init c = search (rules, filled_none)
+pub returns-in-empty : goal.returns-in-empty
+returns-in-empty c = popped_empty c.args.self.now _ c.entries.result.now (search rules) c.entries.ensures c.in-empty.len_below c.holding.ensures
 
-pub loop-k-preserved : goal.loop-k-preserved
-loop-k-preserved c = (omega arith, filled_more _ _ _ _ _ c.loop-k.invariant.1 c.moved_up.ensures refl)
-
-pub returns : goal.returns
-unfolding popped
-returns c = let a = c.args in
-    let l = c.loop-k in
-    let s : length a.self.items ≡ 16 = search rules in
-    popped_is a.self.len a.self.items _ l.k _ _ _ s l.invariant.1 (omega arith) (rw (← c.entry_count.ensures) c.one_less.ensures) (rw (← c.front-oldest.ensures) c.lowered.ensures)
+pub returns-in-len1-up : goal.returns-in-len1-up
+returns-in-len1-up c =
+    popped_some c.args.self.now _ c.entries.result.now _ _ c.entries.ensures c.in-len1-up.len_at_least (c.saturating_sub.ensures ∙ ap (λ (x : ℕ). x - 1) c.count.ensures) c.with_count.ensures c.holding-in-len1-up.ensures

@@ -1,12 +1,6 @@
--- Too many regions, or so many that the rules are tested.
-use Rattle.basis.proofs.Laws.{ways}
-use Rattle.regions.specs.Rules.{lawful}
+-- Where there are no regions, all rules but H1 hold.
+use Rattle.regions.proofs.Lawful.{blank_lawful}
 use Rattle.regions.proofs.Regions.lawful.Goals as goal
 
-pub returns-then-n-gt-MOST : goal.returns-then-n-gt-MOST
-unfolding lawful
-returns-then-n-gt-MOST c = search ways
-
-pub returns : goal.returns
-unfolding lawful
-returns c = search ways
+pub returns-then-self-eq0 : goal.returns-then-self-eq0
+returns-then-self-eq0 c = blank_lawful _ _ _ c.if-self-eq0.true c.blank.ensures

@@ -1,15 +1,10 @@
 -- The regions below `i` agree with all.
-use Prim.Native.Nat.{◌-◌, ◌≤◌}
-use lib.ListN.{get_or}
-use mathlib.Core.Bool.{not, true}
-use mathlib.Core.Path.{◌≡◌}
 use Rattle.basis.specs.Choice.{either}
 use Rattle.basis.specs.Count.{every}
-use Rattle.regions.specs.Rules.{alike_all, may_write}
+use Rattle.regions.specs.Rules.{alike_all, holder_at, last_at, may_write, permission_at, start_at}
+use mathlib.Core.Bool.{not, true}
+use mathlib.Core.Path.{◌≡◌}
 use Rattle.regions.proofs.overlap.each_agrees.Given as goal
 
 abbrev pub invariant-loop-i : goal.invariant-loop-i
-invariant-loop-i l = (l.i ≤ l.n) × (true ≡ every (λ j. either (not (may_write (get_or l.permissions j 0))) (alike_all l.count l.holders l.starts l.lasts (get_or l.holders j 0) (get_or l.starts j 0) (get_or l.lasts j 0))) l.i)
-
-abbrev pub decreases-loop-i : goal.decreases-loop-i
-decreases-loop-i l = l.n - l.i
+invariant-loop-i l = true ≡ every (λ j. either (not (may_write (permission_at l.r j))) (alike_all l.r.count l.r.holders l.r.starts l.r.lasts (holder_at l.r j) (start_at l.r j) (last_at l.r j))) l.i

@@ -1,14 +1,8 @@
--- The permissions below `k` are tested.
-use Prim.Native.Nat.{◌-◌, ◌≤◌}
-use lib.Dec.{eqb}
-use lib.ListN.{get_or}
-use mathlib.Core.Path.{◌≡◌}
+-- The regions below `k` are tested.
 use Rattle.basis.specs.Count.{every}
-use Rattle.regions.specs.Rules.{known}
+use Rattle.regions.specs.Rules.{known, permission_at}
+use mathlib.Core.Path.{◌≡◌}
 use Rattle.regions.proofs.rules.permissions_fit.Given as goal
 
 abbrev pub invariant-loop-k : goal.invariant-loop-k
-invariant-loop-k l = (l.k ≤ l.n) × (eqb l.bits 0 ≡ every (λ j. known (get_or l.permissions j 0)) l.k)
-
-abbrev pub decreases-loop-k : goal.decreases-loop-k
-decreases-loop-k l = l.n - l.k
+invariant-loop-k l = l.ok ≡ every (λ j. known (permission_at l.r j)) l.k

@@ -1,13 +1,9 @@
--- The ranges below `k` are tested.
-use Prim.Native.Nat.{◌-◌, ◌≤◌}
-use lib.Dec.{eqb, leb}
-use lib.ListN.{get_or}
-use mathlib.Core.Path.{◌≡◌}
+-- The regions below `k` are tested.
 use Rattle.basis.specs.Count.{every}
+use Rattle.regions.specs.Rules.{last_at, start_at}
+use lib.Dec.{leb}
+use mathlib.Core.Path.{◌≡◌}
 use Rattle.regions.proofs.rules.ranges_fit.Given as goal
 
 abbrev pub invariant-loop-k : goal.invariant-loop-k
-invariant-loop-k l = (l.k ≤ l.n) × (eqb l.bits 0 ≡ every (λ j. leb (get_or l.starts j 0) (get_or l.lasts j 0)) l.k)
-
-abbrev pub decreases-loop-k : goal.decreases-loop-k
-decreases-loop-k l = l.n - l.k
+invariant-loop-k l = l.ok ≡ every (λ j. leb (start_at l.r j) (last_at l.r j)) l.k

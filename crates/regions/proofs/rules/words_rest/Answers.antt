@@ -1,4 +1,4 @@
--- The addresses of the places below `k` are joined.
+-- The addresses of the places from `n` on, below `k`, are joined.
 use lib.ListN.{get_or}
 use mathlib.Core.Path.{refl, sym}
 use native.Mathlib.Omega.{arith}
@@ -7,10 +7,10 @@ use Rattle.basis.proofs.Laws.{every_end}
 use Rattle.regions.proofs.rules.words_rest.Goals as goal
 
 pub loop-k-init : goal.loop-k-init
-loop-k-init c = (omega arith, omega arith, sym (rest_none _ c.args.starts.now c.args.lasts.now))
+loop-k-init c = sym (rest_none _ c.args.r.now.starts c.args.r.now.lasts)
 
 pub loop-k-preserved : goal.loop-k-preserved
-loop-k-preserved c = (omega arith, omega arith, rest_more _ _ _ (get_or c.args.starts.now c.loop-k.k 0) (get_or c.args.lasts.now c.loop-k.k 0) _ c.loop-k.bits _ refl c.loop-k.invariant.1 c.loop-k.invariant.2 refl refl)
+loop-k-preserved c = rest_more _ _ _ (get_or c.args.r.now.starts c.loop-k.k 0) (get_or c.args.r.now.lasts c.loop-k.k 0) _ c.loop-k.bits _ refl c.loop-k.auto.k c.loop-k.invariant refl refl
 
 pub returns : goal.returns
-returns c = rest_both _ c.args.starts.now c.args.lasts.now _ (every_end _ _ _ _ c.loop-k.invariant.2 (omega arith))
+returns c = rest_both _ c.args.r.now.starts c.args.r.now.lasts _ (every_end _ _ _ _ c.loop-k.invariant (omega arith))

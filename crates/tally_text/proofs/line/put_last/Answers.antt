@@ -1,9 +1,8 @@
 -- A word and a number, twice.
-use native.Mathlib.Omega.{arith}
 use Rattle.tally_text.specs.Report.{last_text}
-use Rattle.text.proofs.Puts.{puts_then}
+use Rattle.text.proofs.Adds.{adds_then}
 use Rattle.tally_text.proofs.line.put_last.Goals as goal
 
 pub returns : goal.returns
 unfolding last_text
-returns c = (puts_then (puts_then c.put_word-a1.ensures.0 c.put_number-a2.ensures.0) (puts_then c.put_word-a3.ensures.0 c.put_number.ensures.0), omega (arith, c.put_word-a1.ensures.1, c.put_number-a2.ensures.1, c.put_word-a3.ensures.1, c.put_number.ensures.1))
+returns c = adds_then (adds_then c.put_word.ensures c.put_number.ensures) (adds_then c.put_word-2.ensures c.put_number-2.ensures)

@@ -1,16 +1,18 @@
 -- The lines of the VMs below `v`.
-use mathlib.Core.Path.{refl, ◌∙◌}
+use mathlib.Core.Path.{◌≡◌}
 use native.Mathlib.Omega.{arith}
-use Rattle.lines.proofs.Texts.{joined_end, joined_more, joined_none}
+use Rattle.lines.proofs.Texts.{joined_more, joined_none}
 use Rattle.tally_text.specs.Shown.{rows_text}
+use Rattle.text.proofs.Adds.{adds_most}
 use Rattle.tally_text.proofs.line.put_rows.Goals as goal
 
 pub loop-v-init : goal.loop-v-init
-loop-v-init c = (omega arith, omega arith, refl, joined_none _)
+unfolding rows_text
+loop-v-init c = joined_none _ 44 _
 
 pub loop-v-preserved : goal.loop-v-preserved
-loop-v-preserved c = (omega arith, omega (arith, c.put_row-to.ensures.1, c.loop-v.invariant.1), c.put_row-to.auto.b ∙ c.loop-v.invariant.2, joined_more _ c.loop-v.invariant.3 c.put_row-to.ensures.0)
+unfolding rows_text
+loop-v-preserved c = joined_more _ 44 c.loop-v.invariant c.put_row.ensures
 
 pub returns : goal.returns
-unfolding rows_text
-returns c = (joined_end _ c.loop-v.invariant.3 (omega arith), omega (arith, c.loop-v.invariant.1))
+returns c = let e : c.loop-v.v ≡ c.args.n = omega arith in adds_most (rw e at c.loop-v.invariant) (omega arith)

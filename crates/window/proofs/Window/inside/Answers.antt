@@ -6,8 +6,8 @@ use Rattle.window.proofs.Window.inside.Goals as goal
 pub returns-then-address-self : goal.returns-then-address-self
 returns-then-address-self c = search (rules, inside_low)
 
-pub returns-then-self-from : goal.returns-then-self-from
-returns-then-self-from c = search (rules, inside_far)
+pub returns-then-from-self : goal.returns-then-from-self
+returns-then-from-self c = search (rules, inside_is)
 
-pub returns : goal.returns
-returns c = search (rules, inside_is)
+pub returns-else-from-self : goal.returns-else-from-self
+returns-else-from-self c = search (rules, inside_far)

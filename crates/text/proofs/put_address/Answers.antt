@@ -1,7 +1,0 @@
--- The digits, then the byte.
-use native.Mathlib.Omega.{arith}
-use Rattle.text.proofs.Puts.{puts_then}
-use Rattle.text.proofs.put_address.Goals as goal
-
-pub returns : goal.returns
-returns c = (puts_then c.put_hex8-behind.ensures.0 c.put_byte.ensures.0, omega (arith, c.put_hex8-behind.ensures.1, c.put_byte.ensures.1))
