@@ -5,8 +5,13 @@ use denote.Triple.Clauses.{AtExit}
 use mathlib.Core.Path.{sym, ◌∙◌, ◌≡◌}
 use Rattle.basis.proofs.Unique.{OneAnswer}
 use Rattle.image_writer.proofs.Refusals.{written_once}
+use Rattle.image_writer.proofs.Unwritten.number.Kinds as number-kinds
+use Rattle.image_writer.proofs.Unwritten.number.Reads as number-reads
 use Rattle.image_writer.proofs.write.Kinds as write-kinds
 use Rattle.image_writer.proofs.write.Reads as write-reads
+
+pub number_one : OneAnswer 0 number-kinds.ps number-kinds.r number-reads.Post
+number_one κs a x y s t p q = p ∙ sym q
 
 -- C1, C2
 pub write_one : OneAnswer 2 write-kinds.ps write-kinds.r write-reads.Post

@@ -43,22 +43,23 @@ pub fn happen(c: &mut Core, e: Event) -> Answer
     after.answer
 }
 
-// The fresh core of an image of any length (I7 to I10, T6, T7).
+// The fresh core of an image of any length (I7 to I10, T6, T7): fresh cores differ in the configuration alone, which is put into one that stands.
 pub fn core_fresh(s: &[u8]) -> Begun
     ensures { result ≡ begun_from s.now }
 {
+    let mut first = Begun {
+        fault: 0,
+        offset: 0,
+        core: Core::fresh(image_reader::no_config()),
+    };
     match image_reader::read(s) {
-        Ok(config) => Begun {
-            fault: 0,
-            offset: 0,
-            core: Core::fresh(config),
-        },
-        Err(refused) => Begun {
-            fault: refused.fault.number(),
-            offset: refused.offset,
-            core: Core::fresh(image_reader::no_config()),
-        },
+        Ok(config) => first.core.config = config,
+        Err(refused) => {
+            first.fault = refused.fault.number();
+            first.offset = refused.offset;
+        }
     }
+    first
 }
 
 // An event by value: the state after it, with the answer (T8).

@@ -1,5 +1,5 @@
 -- The queue means the list of its entries: what each result's entries are, and laws of the lists.
-use Rattle.std.proofs.Common.{◌≡◌, ℕ, zero, suc, ◌+◌, ◌-◌, ◌<◌, ◌≤◌, Bool, true, false, eqb, ltb, List, [], ◌∷◌, ◌++◌, length, get_or, replicate, sym, refl, ◌∙◌, ⊎_elim, arith, length-append, length-set, length-take, length-take-le, ext_get_or, ltb-true, le-ltb, lt-ltb, eq-eqb, eqb-true}
+use Rattle.std.proofs.Common.{◌≡◌, ℕ, zero, suc, ◌+◌, ◌-◌, ◌<◌, ◌≤◌, Bool, true, false, eqb, ltb, List, [], ◌∷◌, ◌++◌, length, get_or, replicate, sym, refl, ◌∙◌, ⊎_elim, add-one, arith, length-append, length-set, length-take, length-take-le, ext_get_or, ltb-true, le-ltb, lt-ltb, eq-eqb, eqb-true}
 use lib.Seq.{take-append_seam}
 use native.Mathlib.Decide.{dec_lt}
 use Rattle.basis.proofs.Laws.{either_is, either_left, either_right, every_is, every_of}
@@ -9,11 +9,24 @@ use Rattle.queue.proofs.Lists.{length_pad, pad, pad_at, past_at, take_at_in, tak
 use Rattle.queue.specs.Entries.{All, Places, cleared, entries, entries_of, front_of, holding, lowered, others, padded_of, popped, pushed, raised, removal, rest}
 use Rattle.queue.specs.declared.Queue.{Queue}
 
--- what stands first, or nobody
+-- what stands first, or nobody; what is left without it
 pub front_at : (l : List ℕ) (r : ℕ) → r ≡ get_or l 0 nobody → r ≡ front_of l
 unfolding front_of
 front_at [] r e = e
 front_at (x ∷ l) r e = e
+
+pub rest_cons : (x : ℕ) (l : List ℕ) → rest (x ∷ l) ≡ l
+unfolding rest
+rest_cons x l = refl
+
+pub rest_nil : rest [] ≡ []
+unfolding rest
+rest_nil = refl
+
+pub rest_at : (l : List ℕ) (k : ℕ) → get_or (rest l) k 0 ≡ get_or l (k + 1) 0
+unfolding rest
+rest_at [] k = refl
+rest_at (x ∷ l) k = rw add-one
 
 pub rest_length : (l : List ℕ) → length (rest l) ≡ length l - 1
 unfolding rest

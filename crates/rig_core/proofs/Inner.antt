@@ -1,8 +1,8 @@
 -- An event where the core stands: refused by its row, or done.
-use Prim.Native.Nat.{ℕ, ◌≤◌}
-use borrow.Author.Tests.{eq-eqb, ltb-false, ne_eqb}
+use Prim.Native.Nat.{ℕ}
+use borrow.Author.Tests.{eq-eqb, ne_eqb}
 use lib.Dec.{eqb, leb, ltb}
-use lib.ListN.{get_or-eq_default, get_or, length, set}
+use lib.ListN.{get_or, length, set}
 use mathlib.Core.Bool.{Bool, false, not, true}
 use mathlib.Core.List.{List}
 use mathlib.Core.Path.{ap, refl, sym, ◌∙◌, ◌≡◌}
@@ -27,6 +27,7 @@ use Rattle.event.specs.Kinds.{is_copy, is_extra, is_start, is_tick, of_master, o
 use Rattle.event.specs.declared.Event.TheVariants.{Call, Copy, Extra, Fault, Restart, Shutdown, Start, Stop, Tick, Write}
 use Rattle.event.specs.declared.Event.{Event}
 use Rattle.guest.specs.Record.{fresh, is_ready, saved_at}
+use Rattle.guest.specs.declared.Delivery.{Delivery}
 use Rattle.guest.specs.declared.Vm.{Vm}
 use Rattle.logic.specs.Changing.{change_from, place_from}
 use Rattle.logic.specs.Rows.{row_from, stray_fault, stray_write}
@@ -36,9 +37,10 @@ use Rattle.queue.specs.declared.Served.{Served}
 use Rattle.table.specs.Position.{next_clock}
 use Rattle.table.specs.declared.Clock.{Clock}
 use Rattle.vms.proofs.Laws.{turn_served}
+use Rattle.vms.proofs.Modulo.{entered_law, runner_law, turn_address}
 use Rattle.vms.proofs.Records.{passed_length}
 use Rattle.vms.specs.Records.{aged_all}
-use Rattle.vms.specs.Tick.{Turn, entering, passed, runner_of, saving, turn, turn_by}
+use Rattle.vms.specs.Tick.{Turn, entering, number_of, passed, runner_of, saving, turn, turn_by}
 use Rattle.window.specs.declared.Pieces.{Pieces}
 use Rattle.window.specs.declared.Window.{Window}
 
@@ -94,21 +96,15 @@ module _ (c : Core) (e : Event) (b : Bool) (r : Stepped) (test : b ≡ sound c) 
 abbrev ticked : Core → Clock → Queue → Turn → Stepped
 ticked c k q t = answering (with_vms (with_queue (with_running (with_clock c k) t.who) q) t.vms) t.number no_notice 0 0
 
--- D6, D7: past the eight records none is ready
-runner_total : (l : List Vm) (owner head who : ℕ) (b : Bool) → length l ≡ 8 → b ≡ is_ready (get_or l owner fresh)
-    → who ≡ pick (is_spare owner) head (pick (ltb owner 8) (pick b owner nobody) nobody) → who ≡ runner_of owner head l
-unfolding runner_of
-runner_total l owner head who b h e f = go (ltb owner 8) refl
-  where
-    go : (t : Bool) → ltb owner 8 ≡ t → who ≡ pick (is_spare owner) head (pick (is_ready (get_or l owner fresh)) owner nobody)
-    go true g = rw (g, e) at f
-    go false g = (let p : length l ≤ owner = omega (arith, ltb-false owner 8 g) in rw (get_or-eq_default l fresh p) (rw g at f))
-
 aged_length : (running at count : ℕ) (l : List Vm) → length (aged_all count (saving running at l)) ≡ length l
 unfolding passed
 aged_length running at count l = passed_length running at count l
 
--- the records of a tick, who runs and what is delivered
+-- a turn is what its parts are
+turn_of : (t : Turn) (vms : List Vm) (who address number : ℕ) → vms ≡ t.vms → who ≡ t.who → address ≡ t.address → number ≡ t.number → record { vms = vms; who = who; address = address; number = number } ≡ t
+turn_of t vms who address number a b c d = rw (a, b, c, d)
+
+-- the records of a tick, who runs and where, and what is delivered (D6 to D9, A2)
 turn_total : (running at count owner head left who h : ℕ) (handlers : List ℕ) (v l m : List Vm) (b : Bool) (vm : Vm) (d : Change) (q : Queue) → length m ≡ 8
     → l ≡ saving running at v → m ≡ aged_all count l → b ≡ is_ready (get_or m owner fresh)
     → who ≡ pick (is_spare owner) head (pick (ltb owner 8) (pick b owner nobody) nobody) → vm ≡ get_or m who fresh → h ≡ get_or handlers who 0
@@ -116,13 +112,40 @@ turn_total : (running at count owner head left who h : ℕ) (handlers : List ℕ
     → record { vms = set m who d.vm; who = who; address = (get_or (set m who d.vm) who fresh).address; number = d.delivered } ≡ turn running at count owner head left handlers v
 unfolding turn turn_by entering passed
 turn_total running at count owner head left who h handlers v l m b vm d q long hl hm hb hwho hvm hh hd =
-    by ∙ ap (λ (k : ℕ). turn_by k left handlers m) (runner_total m owner head who b long hb hwho) ∙ ap (λ (k : List Vm). turn_by (runner_of owner head k) left handlers k) past
+    turn_of t (set m who d.vm) who _ d.delivered stored chosen shown told
   where
-    by : record { vms = set m who d.vm; who = who; address = (get_or (set m who d.vm) who fresh).address; number = d.delivered } ≡ turn_by who left handlers m
-    by = rw (hd, hvm, hh)
+    e : Delivery
+    e = entering who left handlers m
+
+    t : Turn
+    t = turn running at count owner head left handlers v
 
     past : m ≡ passed running at count v
     past = hm ∙ ap (aged_all count) hl
+
+    law : record { vms = set m who e.vm; who = who; address = pick (ltb who 8) e.vm.address 0; number = number_of e.number } ≡ t
+    law =
+        entered_law m handlers who who left (pick (ltb who 8) e.vm.address 0) (number_of e.number) e long (λ f. refl) refl refl refl
+        ∙ ap (λ (k : ℕ). turn_by k left handlers m) (runner_law m owner owner head who b long (λ f. refl) hb hwho)
+        ∙ ap (λ (k : List Vm). turn_by (runner_of owner head k) left handlers k) past
+
+    entered : d.vm ≡ e.vm
+    entered = rw (hd, hvm, hh)
+
+    stored : set m who d.vm ≡ t.vms
+    stored = ap (set m who) entered ∙ ap (λ (x : Turn). x.vms) law
+
+    chosen : who ≡ t.who
+    chosen = ap (λ (x : Turn). x.who) law
+
+    shown : (get_or (set m who d.vm) who fresh).address ≡ t.address
+    shown = ap (λ (k : List Vm). (get_or k who fresh).address) stored ∙ ap (λ (k : ℕ). (get_or t.vms k fresh).address) chosen ∙ sym (turn_address running at count owner head left handlers v)
+
+    delivered : d.delivered ≡ number_of e.number
+    delivered = rw (hd, hvm, hh)
+
+    told : d.delivered ≡ t.number
+    told = delivered ∙ ap (λ (x : Turn). x.number) law
 
 tick_parts : (c : Core) (at owner head : ℕ) (k : Clock) (t : Turn) (q : Queue)
     → k ≡ next_clock c.config.slots c.config.durations c.clock → owner ≡ get_or c.config.owners k.slot 0

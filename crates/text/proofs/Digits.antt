@@ -88,6 +88,17 @@ width_more n h k =
     go false false false false false false true = refl
     go false false false false false false false = refl
 
+-- a number below 100 has at most two digits, one below 10,000 at most four
+pub width_less : (n : ℕ) → n < 100 → width n ≤ 2
+width_less n h =
+    width_cases (λ (k : ℕ). k ≤ 2) n (λ a. omega arith) (λ a b. omega arith) (λ a b. omega arith) (λ a b. omega arith) (λ a b. omega arith)
+    (λ a b. omega arith) (λ a b. omega arith) (λ a b. omega arith) (λ a b. omega arith) (λ a. omega arith)
+
+pub width_few : (n : ℕ) → n < 10000 → width n ≤ 4
+width_few n h =
+    width_cases (λ (k : ℕ). k ≤ 4) n (λ a. omega arith) (λ a b. omega arith) (λ a b. omega arith) (λ a b. omega arith) (λ a b. omega arith)
+    (λ a b. omega arith) (λ a b. omega arith) (λ a b. omega arith) (λ a b. omega arith) (λ a. omega arith)
+
 pub decimal_length : (n : ℕ) → length (decimal n) ≡ width n
 unfolding decimal
 decimal_length n = digits_length 10 (width n) n

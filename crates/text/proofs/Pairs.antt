@@ -3,7 +3,7 @@ use Prim.Native.Nat.{suc, zero, ℕ, ◌%◌, ◌*◌, ◌+◌, ◌/◌, ◌<◌
 use borrow.Author.Tests.{lt-ltb}
 use lib.ListN.{get_or-append, get_or, length, set}
 use lib.Seq.{get_or-append-add}
-use mathlib.Core.List.{List, [], ◌++◌, ◌∷◌}
+use mathlib.Core.List.{List, append_assoc, [], ◌++◌, ◌∷◌}
 use mathlib.Core.Path.{ap, refl, sym, ◌∙◌, ◌≡◌}
 use native.Mathlib.Decide.{dec_lt}
 use native.Mathlib.Nat.{div-div-eq-div-mul, mod-eq_of_lt}
@@ -44,6 +44,10 @@ unfolding pairs
 dec_at x j h i =
     let e : (256 + x) * 2 + j ≡ length hexes + (x * 2 + j) = omega (arith, hexes_long) in
     ap (λ (k : ℕ). get_or pairs k 0) e ∙ get_or-append-add hexes (joined (digits 10 2) 100) (x * 2 + j) 0 ∙ joined_at (digits 10 2) (digits_length 10 2) 100 x j h i
+
+pub pair_length : (x : ℕ) → length (pair_at x) ≡ 2
+unfolding pair_at
+pair_length x = refl
 
 -- each pair of the table is the digits that it stands for
 pub pair_hex : (x : ℕ) → x < 256 → pair_at x ≡ digits 16 2 x
@@ -105,6 +109,14 @@ hex8_pairs n h =
     let b : n / 65536 / 256 ≡ n / 16777216 = div-div-eq-div-mul n 65536 256 in
     hex_two 6 n ∙ rw (hex_two 4 (n / 256), a, hex_two 2 (n / 65536), b, pair_hex (n / 16777216) (omega arith)) refl
 
+-- the upper four digits of a number that has no more than four
+pub upper_zero : (n : ℕ) → n < 65536 → pair_at (n / 16777216) ++ pair_at (n / 65536 % 256) ≡ 48 ∷ 48 ∷ 48 ∷ 48 ∷ []
+unfolding digits glyph
+upper_zero n h =
+    let a : n / 16777216 ≡ 0 = omega arith in
+    let b : n / 65536 % 256 ≡ 0 = omega arith in
+    rw (a, b, pair_hex 0 (omega arith)) refl
+
 pub hex8_zero : (n : ℕ) → n ≡ 0 → hex8 n ≡ 48 ∷ 48 ∷ 48 ∷ 48 ∷ 48 ∷ 48 ∷ 48 ∷ 48 ∷ []
 unfolding hex8 digits glyph
 hex8_zero n h = rw h refl
@@ -123,3 +135,36 @@ decimal_two n h k = rw (width_two n h k) (sym (pair_dec n k))
 pub decimal_more : (n : ℕ) → 100 ≤ n → n < 2 ^ 32 → decimal n ≡ decimal (n / 100) ++ pair_at (256 + n % 100)
 unfolding decimal
 decimal_more n h k = rw (width_more n h k) (dec_two (width (n / 100)) n)
+
+-- a number of three digits, and one of four
+pub decimal_three : (n : ℕ) → 100 ≤ n → n < 1000 → decimal n ≡ ((48 + n / 100) ∷ []) ++ pair_at (256 + n % 100)
+decimal_three n h k = rw (decimal_more n h (omega arith), decimal_one (n / 100) (omega arith)) refl
+
+pub decimal_four : (n : ℕ) → 1000 ≤ n → n < 10000 → decimal n ≡ pair_at (256 + n / 100) ++ pair_at (256 + n % 100)
+decimal_four n h k = rw (decimal_more n (omega arith) (omega arith), decimal_two (n / 100) (omega arith) (omega arith)) refl
+
+-- four digits are two pairs
+pub four_digits : (n : ℕ) → n < 10000 → digits 10 4 n ≡ pair_at (256 + n / 100) ++ pair_at (256 + n % 100)
+four_digits n h = dec_two 2 n ∙ ap (λ (xs : List ℕ). xs ++ pair_at (256 + n % 100)) (sym (pair_dec (n / 100) (omega arith)))
+
+last_four : (n : ℕ) → digits 10 4 (n % 10000) ≡ pair_at (256 + n / 100 % 100) ++ pair_at (256 + n % 100)
+last_four n =
+    let a : n % 10000 / 100 ≡ n / 100 % 100 = omega arith in
+    let b : n % 10000 % 100 ≡ n % 100 = omega arith in
+    rw (four_digits (n % 10000) (omega arith), a, b) refl
+
+-- a number of more than four digits: those before the last four, and these
+pub decimal_five : (n : ℕ) → 10000 ≤ n → n < 2 ^ 32 → decimal n ≡ decimal (n / 10000) ++ digits 10 4 (n % 10000)
+decimal_five n h k =
+    decimal_more n (omega arith) k
+    ∙ ap (λ (xs : List ℕ). xs ++ pair_at (256 + n % 100)) (decimal_more (n / 100) (omega arith) (omega arith))
+    ∙ append_assoc (decimal (n / 100 / 100)) (pair_at (256 + n / 100 % 100)) (pair_at (256 + n % 100))
+    ∙ ap (λ (m : ℕ). decimal m ++ (pair_at (256 + n / 100 % 100) ++ pair_at (256 + n % 100))) (div-div-eq-div-mul n 100 100)
+    ∙ ap (λ (xs : List ℕ). decimal (n / 10000) ++ xs) (sym (last_four n))
+
+-- and of more than eight
+pub decimal_nine : (n : ℕ) → 100000000 ≤ n → n < 2 ^ 32 → decimal n ≡ (decimal (n / 100000000) ++ digits 10 4 (n / 10000 % 10000)) ++ digits 10 4 (n % 10000)
+decimal_nine n h k =
+    decimal_five n (omega arith) k
+    ∙ ap (λ (xs : List ℕ). xs ++ digits 10 4 (n % 10000))
+    (decimal_five (n / 10000) (omega arith) (omega arith) ∙ ap (λ (m : ℕ). decimal m ++ digits 10 4 (n / 10000 % 10000)) (div-div-eq-div-mul n 10000 10000))

@@ -3,6 +3,7 @@
 // points: each requires room on the page for what it puts, and nothing else.
 #![tactic(auto)]
 
+mod number;
 mod page;
 mod pair;
 

@@ -1,17 +1,17 @@
--- Laws of the eight records: loops over them, reads and stores by a number modulo 8.
+-- Laws of the eight records: loops over them, and tests of them.
 use Prim.Native.Nat.{min, suc, zero, ℕ, ◌+◌, ◌-◌, ◌<◌, ◌≤◌}
 use borrow.Author.Tests.{le-ltb, lt-ltb}
 use lib.Dec.{ltb}
-use lib.ListN.{get_or, length, length-set, set}
+use lib.ListN.{get_or-eq_default, get_or, length, length-set, set}
 use lib.Seq.{get_or-set_other, get_or-set_same, set_out}
-use mathlib.Core.Bool.{Bool, false, true}
+use mathlib.Core.Bool.{Bool, false, not, true}
 use mathlib.Core.List.{List, [], ◌∷◌}
 use mathlib.Core.Logic.{◌≢◌}
 use mathlib.Core.Path.{ap, refl, sym, ◌∙◌, ◌≡◌}
 use native.Mathlib.Decide.{dec_lt, ℕ_discrete}
 use native.Mathlib.Nat.{add-suc, add-zero}
 use native.Mathlib.Omega.{arith}
-use Rattle.basis.proofs.Laws.{up_to_more}
+use Rattle.basis.proofs.Laws.{false_true, up_to_more}
 use Rattle.basis.specs.Choice.{either, pick}
 use Rattle.basis.specs.Count.{up_to}
 use Rattle.basis.specs.Nobody.{nobody}
@@ -83,6 +83,19 @@ module _ (f : ℕ → Vm → Vm) where
         where
           below : (i ≡ n → ⊥) → (i < n → ⊥) → n < i
           below e p = elim (dec_lt n i) [ yes q ↦ q | no q ↦ absurd (e (omega arith)) ]
+
+-- what is read past the last record
+pub vm_past : (l : List Vm) (i : ℕ) (v : Vm) → length l ≡ 8 → 8 ≤ i → v ≡ fresh → v ≡ get_or l i fresh
+vm_past l i v e h f = f ∙ sym (get_or-eq_default l fresh (omega arith))
+
+-- a test that is turned round
+pub test_failed : (b p : Bool) → b ≡ p → not b ≡ true → p ≡ false
+test_failed true p e f = false_true f
+test_failed false p e f = sym e
+
+pub test_passed : (b p : Bool) → b ≡ p → not b ≡ false → p ≡ true
+test_passed true p e f = sym e
+test_passed false p e f = false_true (sym f)
 
 -- the standings of eight records, one by one
 pub eight : (l : List Vm) → length l ≡ 8

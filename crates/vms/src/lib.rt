@@ -12,14 +12,14 @@ ghost use Rattle.vms.specs.Tick.{number_of, saving};
 use config::Config;
 use guest::Vm;
 
-// Record i; the fresh record past the last.
+// Record i (T2); the fresh record past the last.
 pub fn vm_at(vms: &[Vm; 8], i: u8) -> Vm
     ensures { result ≡ get_or vms.now i fresh }
 {
     if i < 8 { vms[i as usize] } else { Vm::fresh() }
 }
 
-// Record i replaced (K2); past the last there is none.
+// Record i (T2) replaced (K2); past the last there is none.
 pub fn put_vm(vms: &mut [Vm; 8], i: u8, vm: Vm)
     ensures { vms.new ≡ set vms.old i vm }
 {

@@ -1,11 +1,12 @@
 -- The turns of the loops that copy.
 use Prim.Native.Nat.{ℕ, ◌+◌, ◌-◌, ◌<◌}
 use lib.ListN.{drop, get_or, length, take}
-use lib.Seq.{paste-zero, take-suc}
+use lib.Seq.{paste-zero, take-add, take-suc}
 use mathlib.Core.List.{List, [], ◌++◌, ◌∷◌}
 use mathlib.Core.Path.{ap, refl, sym, ◌∙◌, ◌≡◌}
 use native.Mathlib.Numerals.{add-one}
 use native.Mathlib.Omega.{arith}
+use Rattle.std.proofs.lemmas.List.{take-append-drop}
 use Rattle.std.specs.List.{copy_within}
 use Rattle.window.specs.Bytes.{copied}
 use Rattle.window.specs.Pieces.{copied_all, moved, no_extent}
@@ -20,6 +21,14 @@ moved_is base x m m' e = let n : x.source - base + x.length - (x.source - base) 
 pub moved_none : (base : ℕ) (x : Extent) (m : List ℕ) → x.length ≡ 0 → m ≡ moved base x m
 unfolding copied
 moved_none base x m h = rw h (paste-zero m (x.destination - base) (drop (x.source - base) m))
+
+-- onto itself, no change
+pub moved_same : (base : ℕ) (x : Extent) (m : List ℕ) → x.source ≡ x.destination → m ≡ moved base x m
+unfolding copied
+moved_same base x m h =
+    let to = x.destination - base in
+    let n = x.length in
+    rw h (sym (ap (λ (xs : List ℕ). xs ++ drop (to + n) m) (sym (take-add to n m)) ∙ take-append-drop (to + n) m))
 
 -- one extent more is copied
 pub copied_append : (base : ℕ) (xs : List Extent) (x : Extent) (m : List ℕ) → copied_all base (xs ++ (x ∷ [])) m ≡ moved base x (copied_all base xs m)

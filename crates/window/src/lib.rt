@@ -74,12 +74,13 @@ pub fn copy_all(m: &mut [u8], base: u32, xs: [Extent; 8], n: usize)
     }
 }
 
-// One extent, its bytes as they stood before, since the two ranges may overlap; one of length 0 may have any addresses (D34).
+// One extent, its bytes as they stood before, since the two ranges may overlap; one of length 0 may have any addresses (D34). One that is
+// copied onto itself changes nothing, and the library would go byte by byte.
 fn copy_extent(m: &mut [u8], base: u32, x: &Extent)
     requires { fits (window_of base m.old) x.now ≡ true }
     ensures { m.new ≡ moved base x.now m.old }
 {
-    if x.length != 0 {
+    if x.length != 0 && x.source != x.destination {
         let from = (x.source - base) as usize;
         let to = (x.destination - base) as usize;
         m.copy_within(from..from + x.length as usize, to);

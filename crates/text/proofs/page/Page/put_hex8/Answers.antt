@@ -1,4 +1,4 @@
--- Zeros, or four pairs.
+-- Zeros, or the upper four digits and two pairs.
 use borrow.Author.Rules.{rules}
 use native.Mathlib.Omega.{arith}
 use Rattle.text.proofs.Adds.{adds_then}
@@ -9,4 +9,4 @@ pub returns-then-n-eq0 : goal.returns-then-n-eq0
 returns-then-n-eq0 c = rw (hex8_zero c.args.n (omega arith)) c.put_word.ensures
 
 pub returns : goal.returns
-returns c = rw (hex8_pairs c.args.n (search rules)) (adds_then (adds_then (adds_then c.put_pair.ensures c.put_pair-2.ensures) c.put_pair-3.ensures) c.put_pair-4.ensures)
+returns c = rw (hex8_pairs c.args.n (search rules)) (adds_then (adds_then c.put_upper.ensures c.put_pair.ensures) c.put_pair-2.ensures)

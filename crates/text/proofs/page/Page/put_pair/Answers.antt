@@ -1,11 +1,9 @@
--- Two stores.
+-- The pair stands behind what was used.
 use mathlib.Core.Path.{refl}
 use native.Mathlib.Omega.{arith}
 use Rattle.text.proofs.Adds.{adds}
-use Rattle.text.proofs.Pairs.{pair_put}
-use Rattle.text.specs.Pairs.{pair_at}
+use Rattle.text.proofs.Pairs.{pair_length}
 use Rattle.text.proofs.page.Page.put_pair.Goals as goal
 
 pub returns : goal.returns
-unfolding pair_at
-returns c = adds _ _ _ (record { bytes = pair_put _ _ _ _ c.table-t.ensures; next = refl }) (omega arith) refl
+returns c = adds _ _ _ c.put_pair-self.ensures (omega (arith, pair_length c.args.x)) refl

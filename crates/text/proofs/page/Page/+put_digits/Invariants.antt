@@ -1,5 +1,0 @@
--- Two digits fewer each time.
-use Rattle.text.proofs.page.Page.+put_digits.Given as goal
-
-abbrev pub decreases-put_digits : goal.decreases-put_digits
-decreases-put_digits l = l.n
